@@ -1,0 +1,23 @@
+-- The laws of a label: its two round trips, and how a judgement is reached. Assumes nothing.
+use Prim.Native.Nat.{ℕ}
+use native.Mathlib.Omega.{arith}
+use mathlib.Core.Path.{_≡_, refl, _∙_}
+use mathlib.Core.List.{List, [], _∷_, _++_}
+use lib.ListN.{length, getD}
+use lib.Seq.{take-all}
+use Rattle.octets.proofs.Parts.{one-by-one}
+use Rattle.label.specs.declared.Label.{Label}
+use Rattle.label.specs.Times.{labelOf, labelBytes}
+
+-- a label whose six numbers are those that stand in a row is the row's label
+pub same : (s : List ℕ) (l : Label) → l .second ≡ getD s 0 0 → l .minute ≡ getD s 1 0 → l .hour ≡ getD s 2 0 → l .day ≡ getD s 3 0
+    → l .month ≡ getD s 4 0 → l .year ≡ getD s 5 0 → l ≡ labelOf s
+same s l a b c d e f = λ i. record { second = a i; minute = b i; hour = c i; day = d i; month = e i; year = f i }
+
+-- written and read back: the same label
+pub bytes-label : (l : Label) (rest : List ℕ) → labelOf (labelBytes l ++ rest) ≡ l
+bytes-label l rest = refl
+
+-- read and written back: the same six bytes
+pub label-bytes : (s : List ℕ) → length s ≡ 6 → labelBytes (labelOf s) ≡ s
+label-bytes s h = one-by-one s 0 6 (omega arith) ∙ take-all 6 s (omega arith)

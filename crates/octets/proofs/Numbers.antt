@@ -1,0 +1,65 @@
+-- The laws of numbers as bytes: how a number is read byte by byte, and the round trips. By induction on the bytes.
+-- Assumes nothing.
+use Prim.Native.Nat.{ℕ, zero, suc, _+_, _*_, _/_, _%_, _^_, _≤_, _<_}
+use native.Mathlib.Nat.{pow-suc}
+use native.Mathlib.Numerals.{add-one, add-two}
+use native.Mathlib.Omega.{arith}
+use mathlib.Core.Path.{_≡_, refl, ap}
+use mathlib.Core.List.{List, [], _∷_}
+use lib.ListN.{length, getD, take, drop, drop-of-length-le}
+use lib.Seq.{take-nil}
+use Rattle.octets.specs.Numbers.{Octets, lowFirst, bytesOf}
+
+-- a number of one byte more: the byte at its place and 256 times what follows
+pub low-step : (s : List ℕ) (at n : ℕ) → lowFirst (take (suc n) (drop at s)) ≡ getD s at 0 + 256 * lowFirst (take n (drop (suc at) s))
+unfolding lowFirst
+low-step [] zero n = simp (take-nil {A = ℕ})
+low-step [] (suc at) n = simp (take-nil {A = ℕ})
+low-step (b ∷ s) zero n = refl
+low-step (b ∷ s) (suc at) n = low-step s at n
+
+-- behind the end every byte reads 0
+pub low-behind : (s : List ℕ) (at n : ℕ) → length s ≤ at → 0 ≡ lowFirst (take n (drop at s))
+unfolding lowFirst
+low-behind s at n h = simp (drop-of-length-le s h, take-nil {A = ℕ})
+
+pub low-two : (s : List ℕ) (at : ℕ) → lowFirst (take 2 (drop at s)) ≡ getD s at 0 + 256 * getD s (at + 1) 0
+unfolding lowFirst
+low-two s at = rw (add-one at) (omega (arith, low-step s at 1, low-step s (suc at) 0))
+
+pub low-four : (s : List ℕ) (at : ℕ) → lowFirst (take 4 (drop at s)) ≡ lowFirst (take 2 (drop at s)) + 65536 * lowFirst (take 2 (drop (at + 2) s))
+unfolding lowFirst
+low-four s at =
+    rw (add-two at)
+    (omega
+    (arith, low-step s at 3, low-step s (suc at) 2, low-step s at 1, low-step s (suc at) 0))
+
+pub length-bytes : (n x : ℕ) → length (bytesOf n x) ≡ n
+unfolding bytesOf
+length-bytes zero x = refl
+length-bytes (suc n) x = ap suc (length-bytes n (x / 256))
+
+pub octets-bytes : (n x : ℕ) → Octets (bytesOf n x)
+unfolding bytesOf
+octets-bytes zero x i = omega arith
+octets-bytes (suc n) x zero = omega arith
+octets-bytes (suc n) x (suc i) = octets-bytes n (x / 256) i
+
+-- written and read back: the same number
+pub bytes-low : (n x : ℕ) → x < 256 ^ n → lowFirst (bytesOf n x) ≡ x
+unfolding bytesOf lowFirst
+bytes-low zero x h = omega arith
+bytes-low (suc n) x h = omega (arith, bytes-low n (x / 256) (below n x h))
+  where
+    below : (n x : ℕ) → x < 256 ^ suc n → x / 256 < 256 ^ n
+    below n x h = omega (arith, pow-suc 256 n)
+
+-- read and written back: the same bytes
+pub low-bytes : (s : List ℕ) → Octets s → bytesOf (length s) (lowFirst s) ≡ s
+unfolding bytesOf lowFirst
+low-bytes [] h = refl
+low-bytes (b ∷ s) h =
+    let here : b < 256 = h 0 in
+    let low : (b + 256 * lowFirst s) % 256 ≡ b = omega arith in
+    let rest : (b + 256 * lowFirst s) / 256 ≡ lowFirst s = omega arith in
+    simp (low, rest) (ap (λ (t : List ℕ). b ∷ t) (low-bytes s (λ i. h (suc i))))

@@ -1,0 +1,94 @@
+-- The laws of parts and of bytes put into a row: what stands inside, what stands outside, and lengths.
+-- Assumes nothing.
+use Prim.Native.Nat.{ℕ, zero, suc, _+_, _-_, _≤_, _<_}
+use native.Mathlib.Omega.{arith}
+use mathlib.Core.Bool.{Bool, true, false, cond}
+use mathlib.Core.Path.{_≡_, refl, sym, ap, _∙_}
+use mathlib.Core.List.{List, [], _∷_, _++_, append-assoc}
+use borrow.Author.Tests.{le-leb, lt-leb, leb-true, leb-false}
+use lib.Dec.{leb}
+use lib.ListN.{length, getD, take, drop, length-append, length-take, length-drop}
+use native.Mathlib.Nat.{le-of-eq}
+use lib.Seq.{take-all, take-at, drop-at, take-append-seam, drop-cons, getD-take, getD-drop, length-take-le}
+use Rattle.octets.specs.Parts.{within, part, partPlace, putAt, oneByOne}
+
+-- a part that is there
+module _ (s : List ℕ) (from to : ℕ) (up : from ≤ to) (fits : to ≤ length s) where
+  pub part-is : part s from to ≡ take (to - from) (drop from s)
+  unfolding part
+  part-is = simp (le-leb from to up, le-leb to (length s) fits)
+
+  pub length-part : length (part s from to) ≡ to - from
+  length-part = simp (part-is, length-take, length-drop) (omega arith)
+
+  pub part-at : (k : ℕ) → k < to - from → getD (part s from to) k 0 ≡ getD s (from + k) 0
+  part-at k h = simp part-is (getD-take (to - from) (drop from s) k 0 h ∙ getD-drop from s k 0)
+
+  pub place-is : (p : ℕ × ℕ) → partPlace p s from to ≡ (p .0, from + p .1)
+  unfolding partPlace
+  place-is p = simp (le-leb from to up, le-leb to (length s) fits)
+
+-- one that is not there is empty, at the front
+module _ (s : List ℕ) (from to : ℕ) where
+  pub no-part : within s from to ≡ false → (p : ℕ × ℕ) → ([] ≡ part s from to) × ((p .0, 0 + p .1) ≡ partPlace p s from to)
+  unfolding part partPlace
+  no-part e p = (simp e, simp e)
+
+  pub past-end : length s < to → within s from to ≡ false
+  past-end h = simp (lt-leb to (length s) h)
+
+  pub reversed : to ≤ length s → to < from → within s from to ≡ false
+  reversed fits h = simp (le-leb to (length s) fits, lt-leb from to h)
+
+-- bytes that fit
+module _ (o : List ℕ) (at : ℕ) (bytes : List ℕ) (fits : at + length bytes ≤ length o) where
+  pub put-is : putAt o at bytes ≡ take at o ++ bytes ++ drop (at + length bytes) o
+  unfolding putAt
+  put-is = simp (le-leb (at + length bytes) (length o) fits)
+
+  front : length (take at o) ≡ at
+  front = length-take-le at o (omega arith)
+
+  head : length (take at o ++ bytes) ≡ at + length bytes
+  head = length-append (take at o) bytes ∙ ap (λ (n : ℕ). n + length bytes) front
+
+  put-long : length (putAt o at bytes) ≡ length o
+  put-long = simp put-is (omega (arith, length-append (take at o ++ bytes) (drop (at + length bytes) o), head, length-drop (at + length bytes) o))
+
+  pub put-before : take at (putAt o at bytes) ≡ take at o
+  put-before = simp (put-is, append-assoc) (take-at (take at o) (bytes ++ drop (at + length bytes) o) at front)
+
+  pub put-after : drop (at + length bytes) (putAt o at bytes) ≡ drop (at + length bytes) o
+  put-after = simp put-is (drop-at (take at o ++ bytes) (drop (at + length bytes) o) (at + length bytes) head)
+
+  pub put-part : part (putAt o at bytes) at (at + length bytes) ≡ bytes
+  put-part =
+      let few : at + length bytes - at ≡ length bytes = omega arith in
+      let fits' : at + length bytes ≤ length (putAt o at bytes) = omega (arith, put-long) in
+      part-is (putAt o at bytes) at (at + length bytes) (omega arith) fits'
+      ∙ simp (few, put-is, append-assoc)
+      (ap (take (length bytes)) (drop-at (take at o) (bytes ++ drop (at + length bytes) o) at front)
+      ∙ take-append-seam bytes (drop (at + length bytes) o))
+
+-- bytes that do not fit change nothing
+pub put-none : (o : List ℕ) (at : ℕ) (bytes : List ℕ) → length o < at + length bytes → putAt o at bytes ≡ o
+unfolding putAt
+put-none o at bytes h = simp (lt-leb (at + length bytes) (length o) h)
+
+pub length-put : (o : List ℕ) (at : ℕ) (bytes : List ℕ) → length (putAt o at bytes) ≡ length o
+length-put o at bytes = by-test (leb (at + length bytes) (length o)) refl
+  where
+    by-test : (t : Bool) → leb (at + length bytes) (length o) ≡ t → length (putAt o at bytes) ≡ length o
+    by-test true e = put-long o at bytes (leb-true (at + length bytes) (length o) e)
+    by-test false e = ap length (put-none o at bytes (leb-false (at + length bytes) (length o) e))
+
+-- bytes read one by one are the part that they stand in
+pub one-by-one : (s : List ℕ) (i n : ℕ) → i + n ≤ length s → oneByOne s i n ≡ take n (drop i s)
+one-by-one s i zero h = refl
+one-by-one s i (suc n) h =
+    rw (drop-cons s i 0 (omega arith))
+    (ap (λ (t : List ℕ). getD s i 0 ∷ t) (one-by-one s (suc i) n (omega arith)))
+
+-- what `&s[at..]` lends is all from that place on
+pub rest-is : (s : List ℕ) (at : ℕ) → take (length s - at) (drop at s) ≡ drop at s
+rest-is s at = take-all (length s - at) (drop at s) (le-of-eq (length-drop at s))

@@ -1,0 +1,136 @@
+// Bytes as the standard counts them: numbers low byte first, parts, bytes put into a lent row, and the sum.
+ghost use mathlib.Core.Path.{_≡_};
+ghost use denote.Ref.{ptr};
+ghost use Prim.Native.Nat.{_+_, _<_, _%_};
+ghost use lib.ListN.{getD, take, drop};
+ghost use Rattle.octets.specs.Numbers.{lowFirst, bytesOf, signedOf, bitsOf};
+ghost use Rattle.octets.specs.Parts.{part, partPlace, putAt};
+ghost use Rattle.octets.specs.Sums.{total};
+
+// The byte at a place, 0 behind the end.
+pub fn byte_at(s: &[u8], at: usize) -> u8
+    ensures { λ r. ⌜ r ≡ getD (now (s .entry)) at 0 ⌝ }
+{
+    if at < s.len() {
+        return s[at];
+    }
+    0
+}
+
+// A byte as a number that is wide enough to count with.
+pub fn wide(x: u8) -> usize
+    ensures { λ r. ⌜ r ≡ x ⌝ }
+    ensures { λ r. ⌜ r < 256 ⌝ }
+{
+    x as usize
+}
+
+// The number of the two bytes from a place on.
+pub fn two_at(s: &[u8], at: usize) -> u16
+    ensures { λ r. ⌜ r ≡ lowFirst (take 2 (drop at (now (s .entry)))) ⌝ }
+{
+    if s.len() <= at {
+        return 0;
+    }
+    (byte_at(s, at) as u16) + 256 * (byte_at(s, at + 1) as u16)
+}
+
+// The number of the four bytes from a place on.
+pub fn four_at(s: &[u8], at: usize) -> u32
+    ensures { λ r. ⌜ r ≡ lowFirst (take 4 (drop at (now (s .entry)))) ⌝ }
+{
+    if s.len() <= at {
+        return 0;
+    }
+    (two_at(s, at) as u32) + 65536 * (two_at(s, at + 2) as u32)
+}
+
+pub fn two_bytes(x: u16) -> [u8; 2]
+    ensures { λ r. ⌜ r ≡ bytesOf 2 x ⌝ }
+{
+    [(x % 256) as u8, (x / 256 % 256) as u8]
+}
+
+pub fn four_bytes(x: u32) -> [u8; 4]
+    ensures { λ r. ⌜ r ≡ bytesOf 4 x ⌝ }
+{
+    [
+        (x % 256) as u8,
+        (x / 256 % 256) as u8,
+        (x / 256 / 256 % 256) as u8,
+        (x / 256 / 256 / 256 % 256) as u8,
+    ]
+}
+
+// The signed number that two bytes stand for.
+pub fn signed(x: u16) -> i16
+    ensures { λ r. ⌜ r ≡ signedOf x ⌝ }
+{
+    if x < 32768 {
+        return x as i16;
+    }
+    -1 - ((65535 - x) as i16)
+}
+
+// The two bytes, as a number, that stand for a signed number.
+pub fn bits(x: i16) -> u16
+    ensures { λ r. ⌜ r ≡ bitsOf x ⌝ }
+{
+    if 0 <= x {
+        return x as u16;
+    }
+    65535 - ((-1 - x) as u16)
+}
+
+// The part from one place to another, empty at the front where there is no such part.
+pub fn part_of(s: &[u8], from: usize, to: usize) -> &[u8]
+    ensures { λ r. ⌜ now r ≡ part (now (s .entry)) from to ⌝ }
+    ensures { λ r. ⌜ ptr r ≡ partPlace (ptr (s .entry)) (now (s .entry)) from to ⌝ }
+{
+    if s.len() < to {
+        return &s[0..0];
+    }
+    if to < from {
+        return &s[0..0];
+    }
+    &s[from..to]
+}
+
+// Bytes put at a place of a lent row; what does not fit changes nothing.
+pub fn put(out: &mut [u8], at: usize, bytes: &[u8])
+    ensures { λ r. ⌜ now (out .exit) ≡ putAt (now (out .entry)) at (now (bytes .entry)) ⌝ }
+{
+    if out.len() < at {
+        return;
+    }
+    if out.len() - at < bytes.len() {
+        return;
+    }
+    let mut i: usize = 0;
+    while i < bytes.len() {
+        out[at + i] = bytes[i];
+        i = i + 1;
+    }
+}
+
+// The sum modulo 256 of at most the first 1,049 bytes.
+pub fn sum(s: &[u8]) -> u8
+    ensures { λ r. ⌜ r ≡ total (take 1049 (now (s .entry))) % 256 ⌝ }
+{
+    if 1049 < s.len() {
+        return sum_all(&s[0..1049]);
+    }
+    sum_all(s)
+}
+
+fn sum_all(s: &[u8]) -> u8
+    ensures { λ r. ⌜ r ≡ total (now (s .entry)) % 256 ⌝ }
+{
+    let mut sum: u8 = 0;
+    let mut i: usize = 0;
+    while i < s.len() {
+        sum = std::num::wrapping_add_u8(sum, s[i]);
+        i = i + 1;
+    }
+    sum
+}

@@ -1,0 +1,2 @@
+pub mod Refusing
+pub mod Order

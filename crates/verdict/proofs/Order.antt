@@ -1,0 +1,49 @@
+-- The laws of an order of tests, which the judges cite instead of the definition's text. By induction on the tests.
+-- Assumes nothing.
+use Prim.Native.Nat.{ℕ}
+use mathlib.Core.Bool.{Bool, true, false, not, cond, _&&_, true≢false, false≢true}
+use mathlib.Core.Path.{_≡_, refl, sym, ap, subst, _∙_}
+use mathlib.Core.List.{List, [], _∷_, _++_}
+use lib.Dec.{eqb}
+use Rattle.verdict.specs.declared.Verdict.{Verdict}
+use Rattle.verdict.specs.Orders.{Test, inOrder, good, isGood, Held, refusing}
+
+-- what follows a passed test
+pub passed : (t : Test) (ts : List Test) (rest : Verdict) → t .holds ≡ true → inOrder (t ∷ ts) rest ≡ inOrder ts rest
+unfolding inOrder
+passed t ts rest e = simp e
+
+-- a test that fails decides
+pub failed : (t : Test) (ts : List Test) (rest : Verdict) → t .holds ≡ false → inOrder (t ∷ ts) rest ≡ t .refused
+unfolding inOrder
+failed t ts rest e = simp e
+
+-- one order after another
+pub joined : (ts us : List Test) (rest : Verdict) → inOrder (ts ++ us) rest ≡ inOrder ts (inOrder us rest)
+unfolding inOrder
+joined [] us rest = refl
+joined (t ∷ ts) us rest = ap (λ (v : Verdict). cond (t .holds) v (t .refused)) (joined ts us rest)
+
+-- where every test held, what comes after them decides
+pub all-passed : (ts : List Test) (rest : Verdict) → Held ts → inOrder ts rest ≡ rest
+unfolding inOrder
+all-passed [] rest h = refl
+all-passed (t ∷ ts) rest h = passed t ts rest (h .0) ∙ all-passed ts rest (h .1)
+
+-- the first test that fails decides
+pub first-failed : (ts : List Test) (t : Test) (us : List Test) (rest : Verdict) → Held ts → t .holds ≡ false → inOrder (ts ++ (t ∷ us)) rest ≡ t .refused
+first-failed ts t us rest h e = joined ts (t ∷ us) rest ∙ all-passed ts (inOrder (t ∷ us) rest) h ∙ failed t us rest e
+
+-- a good verdict means that every test held, and that what comes after them is good
+pub good-held : (ts : List Test) (rest : Verdict) → refusing ts ≡ true → isGood (inOrder ts rest) ≡ true → Held ts × (isGood rest ≡ true)
+unfolding inOrder
+good-held [] rest n g = (tt, g)
+good-held (t ∷ ts) rest n g = by-test (t .holds) refl (isGood (t .refused)) refl n g (good-held ts rest)
+  where
+    by-test : (b : Bool) → t .holds ≡ b → (r : Bool) → isGood (t .refused) ≡ r → not r && refusing ts ≡ true
+        → isGood (cond b (inOrder ts rest) (t .refused)) ≡ true
+        → (refusing ts ≡ true → isGood (inOrder ts rest) ≡ true → Held ts × (isGood rest ≡ true))
+        → ((t .holds ≡ true) × Held ts) × (isGood rest ≡ true)
+    by-test b e true q n g ih = absurd (false≢true n)
+    by-test true e false q n g ih = let h = ih n g in ((e, h .0), h .1)
+    by-test false e false q n g ih = absurd (false≢true (sym q ∙ g))

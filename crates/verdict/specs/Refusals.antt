@@ -1,0 +1,120 @@
+-- Document 01, "Refusal numbers": each number under its name, and each name as the bytes that the listing prints.
+-- Assumes nothing.
+use Prim.Native.Nat.{ℕ, _-_}
+use Prim.Native.Char.{Char, code}
+use Prim.Native.String.{String}
+use mathlib.Core.List.{List, [], _∷_, _++_, map}
+use lib.ListN.{length, getD, replicate}
+use Rattle.verdict.specs.declared.names.Name.{Name}
+
+-- "no. | name"
+abbrev pub STATE : ℕ
+STATE = 1
+
+abbrev pub ROOM : ℕ
+ROOM = 2
+
+abbrev pub CUT : ℕ
+CUT = 3
+
+abbrev pub START : ℕ
+START = 4
+
+abbrev pub LENGTH : ℕ
+LENGTH = 5
+
+abbrev pub END : ℕ
+END = 6
+
+abbrev pub SUM : ℕ
+SUM = 7
+
+abbrev pub VERSION : ℕ
+VERSION = 8
+
+abbrev pub COMMAND : ℕ
+COMMAND = 9
+
+abbrev pub TIME : ℕ
+TIME = 10
+
+abbrev pub UNIT : ℕ
+UNIT = 11
+
+abbrev pub TYPE : ℕ
+TYPE = 12
+
+abbrev pub COUNT : ℕ
+COUNT = 13
+
+abbrev pub SIZE : ℕ
+SIZE = 14
+
+abbrev pub NUMBER : ℕ
+NUMBER = 15
+
+abbrev pub KIND : ℕ
+KIND = 16
+
+abbrev pub TEXT : ℕ
+TEXT = 17
+
+abbrev pub SETTING : ℕ
+SETTING = 18
+
+abbrev pub FULL : ℕ
+FULL = 19
+
+abbrev pub STRAY : ℕ
+STRAY = 20
+
+abbrev pub MANY : ℕ
+MANY = 21
+
+abbrev pub ORDER : ℕ
+ORDER = 22
+
+abbrev pub ORPHAN : ℕ
+ORPHAN = 23
+
+abbrev pub TAIL : ℕ
+TAIL = 24
+
+abbrev pub UNLISTED : ℕ
+UNLISTED = 25
+
+-- a row of the table: a number and its name
+pub record Row : Type 0 where
+  pub number : ℕ
+  pub name : String
+
+abbrev row : ℕ → String → Row
+row n s = record { number = n; name = s }
+
+-- the whole table
+abbrev pub refusals : List Row
+refusals =
+    row STATE "STATE" ∷ row ROOM "ROOM" ∷ row CUT "CUT" ∷ row START "START" ∷ row LENGTH "LENGTH" ∷ row END "END" ∷ row SUM "SUM"
+    ∷ row VERSION "VERSION" ∷ row COMMAND "COMMAND" ∷ row TIME "TIME" ∷ row UNIT "UNIT" ∷ row TYPE "TYPE" ∷ row COUNT "COUNT"
+    ∷ row SIZE "SIZE" ∷ row NUMBER "NUMBER" ∷ row KIND "KIND" ∷ row TEXT "TEXT" ∷ row SETTING "SETTING" ∷ row FULL "FULL"
+    ∷ row STRAY "STRAY" ∷ row MANY "MANY" ∷ row ORDER "ORDER" ∷ row ORPHAN "ORPHAN" ∷ row TAIL "TAIL" ∷ row UNLISTED "UNLISTED" ∷ []
+
+abbrev pub numbers : List ℕ
+numbers = map (λ (r : Row). r .number) refusals
+
+-- a text as its bytes
+abbrev pub ascii : String → List ℕ
+ascii String.[] = []
+ascii (String._∷_ c s) = code c ∷ ascii s
+
+-- eight bytes, zero behind the text
+abbrev pub named : String → Name
+named s = record { bytes = ascii s ++ replicate (8 - length (ascii s)) 0; length = length (ascii s) }
+
+-- "the judge's OK or refusal name": 0 is good
+abbrev pub names : List String
+names = "OK" ∷ map (λ (r : Row). r .name) refusals
+
+-- the name at a number's place, of no bytes where there is none
+unfoldable pub nameOf : ℕ → Name
+nameOf n = named (getD names n "")
