@@ -69,6 +69,12 @@ module _ (f : ℕ → Bool) where
       by-test false e h ih =
           ⊎-elim (λ (q : i ≡ k). subst (λ (m : ℕ). f m ≡ false) q e) (λ (q : i < k). ih q h) (eq-or-lt-of-le l)
 
+  -- where no place fits, the end is found
+  pub first-all : (i n : ℕ) → ((k : ℕ) → f k ≡ false) → firstFit f i n ≡ i + n
+  unfolding firstFit
+  first-all i zero h = omega arith
+  first-all i (suc n) h = simp (h i) (omega (arith, first-all (suc i) n h))
+
   -- the three turns again, for whether any fits
   pub any-end : (i n : ℕ) → n ≤ i → anyFits f i (n - i) ≡ false
   unfolding anyFits

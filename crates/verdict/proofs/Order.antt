@@ -47,3 +47,29 @@ good-held (t ∷ ts) rest n g = by-test (t .holds) refl (isGood (t .refused)) re
     by-test b e true q n g ih = absurd (false≢true n)
     by-test true e false q n g ih = let h = ih n g in ((e, h .0), h .1)
     by-test false e false q n g ih = absurd (false≢true (sym q ∙ g))
+
+-- where the tests before it decide, what comes after them does not matter
+pub stays : (ts : List Test) (rest : Verdict) → isGood (inOrder ts good) ≡ false → inOrder ts rest ≡ inOrder ts good
+unfolding inOrder
+stays [] rest e = absurd (true≢false e)
+stays (t ∷ ts) rest e = by-test (t .holds) e (stays ts rest)
+  where
+    by-test : (b : Bool) → isGood (cond b (inOrder ts good) (t .refused)) ≡ false → (isGood (inOrder ts good) ≡ false → inOrder ts rest ≡ inOrder ts good)
+        → cond b (inOrder ts rest) (t .refused) ≡ cond b (inOrder ts good) (t .refused)
+    by-test true e ih = ih e
+    by-test false e ih = refl
+
+-- where they are all passed, it decides
+pub goes-on : (ts : List Test) (rest : Verdict) → refusing ts ≡ true → isGood (inOrder ts good) ≡ true → inOrder ts rest ≡ rest
+goes-on ts rest n g = all-passed ts rest (good-held ts good n g .0)
+
+-- and a good verdict of an order is the good one
+pub good-is : (ts : List Test) → refusing ts ≡ true → isGood (inOrder ts good) ≡ true → inOrder ts good ≡ good
+good-is ts n g = goes-on ts good n g
+
+-- the same of one order after another
+pub joined-stays : (ts us : List Test) (rest : Verdict) → isGood (inOrder ts good) ≡ false → inOrder (ts ++ us) rest ≡ inOrder ts good
+joined-stays ts us rest e = joined ts us rest ∙ stays ts (inOrder us rest) e
+
+pub joined-on : (ts us : List Test) (rest : Verdict) → refusing ts ≡ true → isGood (inOrder ts good) ≡ true → inOrder (ts ++ us) rest ≡ inOrder us rest
+joined-on ts us rest n g = joined ts us rest ∙ goes-on ts (inOrder us rest) n g

@@ -5,7 +5,9 @@ use mathlib.Core.Bool.{Bool, true, not, _&&_, cond}
 use mathlib.Core.Path.{_≡_}
 use mathlib.Core.List.{List, [], _∷_}
 use lib.Dec.{eqb}
+use Rattle.octets.specs.Parts.{part, partPlace}
 use Rattle.verdict.specs.declared.Verdict.{Verdict}
+use Rattle.verdict.specs.declared.Part.{Part}
 
 -- "A refusal returns its number and place (0 where none is refusing)"
 abbrev pub refusal : ℕ → ℕ → Verdict
@@ -16,6 +18,21 @@ good = refusal 0 0
 
 abbrev pub isGood : Verdict → Bool
 isGood v = eqb (v .number) 0
+
+-- "an empty part where a part is due"
+abbrev pub noPart : Verdict → Part
+noPart v = record { verdict = v; from = 0; to = 0 }
+
+-- a part that stands from one place to another, unless it is refused
+unfoldable pub partBy : Verdict → ℕ → ℕ → Part
+partBy v from to = cond (isGood v) (record { verdict = v; from = from; to = to }) (noPart v)
+
+-- "handed back as that part of the caller's own bytes": its bytes, and its place in memory
+abbrev pub partIn : List ℕ → Part → List ℕ
+partIn s p = part s (p .from) (p .to)
+
+abbrev pub placeIn : ℕ × ℕ → List ℕ → Part → ℕ × ℕ
+placeIn q s p = partPlace q s (p .from) (p .to)
 
 -- a test, and the refusal where it fails
 pub record Test : Type 0 where

@@ -1,7 +1,7 @@
 // A verdict, the refusals by number and by name, and what every judge answers.
 ghost use mathlib.Core.Path.{_≡_};
 ghost use Rattle.verdict.specs.Refusals.{numbers};
-ghost use Rattle.verdict.specs.Orders.{good, refusal, isGood};
+ghost use Rattle.verdict.specs.Orders.{good, refusal, isGood, noPart};
 
 // The refusals' names for the listing.
 pub mod names;
@@ -10,6 +10,13 @@ pub mod names;
 pub struct Verdict {
     pub number: u8,
     pub place: usize,
+}
+
+// A verdict, and where a part stands in the caller's bytes: 0 and 0 where it is refused.
+pub struct Part {
+    pub verdict: Verdict,
+    pub from: usize,
+    pub to: usize,
 }
 
 pub const STATE: u8 = 1;
@@ -82,6 +89,18 @@ impl Verdict {
         ensures { λ r. ⌜ r ≡ isGood self ⌝ }
     {
         self.number == 0
+    }
+}
+
+impl Part {
+    pub fn refused(verdict: Verdict) -> Part
+        ensures { λ r. ⌜ r ≡ noPart verdict ⌝ }
+    {
+        Part {
+            verdict,
+            from: 0,
+            to: 0,
+        }
     }
 }
 

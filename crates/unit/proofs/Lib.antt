@@ -1,0 +1,5 @@
+pub mod Walks
+pub mod Shapes
+pub mod Times
+pub mod Judging
+pub mod Placing
