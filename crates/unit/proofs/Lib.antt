@@ -3,3 +3,5 @@ pub mod Shapes
 pub mod Times
 pub mod Judging
 pub mod Placing
+pub mod Good
+pub mod Examples

@@ -6,7 +6,7 @@ use mathlib.Core.Path.{_≡_, refl, sym, ap, subst, _∙_}
 use mathlib.Core.List.{List, [], _∷_, _++_}
 use lib.Dec.{eqb}
 use Rattle.verdict.specs.declared.Verdict.{Verdict}
-use Rattle.verdict.specs.Orders.{Test, inOrder, good, isGood, Held, refusing}
+use Rattle.verdict.specs.Orders.{Test, inOrder, good, isGood, noPart, partBy, Held, refusing}
 
 -- what follows a passed test
 pub passed : (t : Test) (ts : List Test) (rest : Verdict) → t .holds ≡ true → inOrder (t ∷ ts) rest ≡ inOrder ts rest
@@ -73,3 +73,29 @@ joined-stays ts us rest e = joined ts us rest ∙ stays ts (inOrder us rest) e
 
 pub joined-on : (ts us : List Test) (rest : Verdict) → refusing ts ≡ true → isGood (inOrder ts good) ≡ true → inOrder (ts ++ us) rest ≡ inOrder us rest
 joined-on ts us rest n g = joined ts us rest ∙ goes-on ts (inOrder us rest) n g
+
+-- of tests that all held the first ones held, and their verdict is good
+pub held-left : (ts us : List Test) → Held (ts ++ us) → Held ts
+held-left [] us h = tt
+held-left (t ∷ ts) us h = (h .0, held-left ts us (h .1))
+
+pub held-good : (ts : List Test) → Held ts → isGood (inOrder ts good) ≡ true
+held-good ts h = ap isGood (all-passed ts good h)
+
+-- a part's verdict is the one that it was made by, and a refused part stands nowhere
+pub part-verdict : (v : Verdict) (from to : ℕ) (b : Bool) → isGood (partBy v from to .verdict) ≡ b → isGood v ≡ b
+unfolding partBy
+part-verdict v from to b e = by-test (isGood v) refl e
+  where
+    by-test : (g : Bool) → isGood v ≡ g → isGood (cond g (record { verdict = v; from = from; to = to }) (noPart v) .verdict) ≡ b → isGood v ≡ b
+    by-test true q e = e
+    by-test false q e = e
+
+pub part-none : (v : Verdict) (from to : ℕ) → isGood (partBy v from to .verdict) ≡ false → partBy v from to ≡ noPart (partBy v from to .verdict)
+unfolding partBy
+part-none v from to e = by-test (isGood v) refl e
+  where
+    by-test : (g : Bool) → isGood v ≡ g → isGood (cond g (record { verdict = v; from = from; to = to }) (noPart v) .verdict) ≡ false
+        → cond g (record { verdict = v; from = from; to = to }) (noPart v) ≡ noPart (cond g (record { verdict = v; from = from; to = to }) (noPart v) .verdict)
+    by-test true q e = absurd (true≢false (sym q ∙ e))
+    by-test false q e = refl
