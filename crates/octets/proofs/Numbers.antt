@@ -7,7 +7,7 @@ use native.Mathlib.Omega.{arith}
 use mathlib.Core.Path.{_≡_, refl, ap}
 use mathlib.Core.List.{List, [], _∷_}
 use lib.ListN.{length, getD, take, drop, drop-of-length-le}
-use lib.Seq.{take-nil}
+use lib.Seq.{take-nil, drop-cons}
 use Rattle.octets.specs.Numbers.{Octets, lowFirst, bytesOf}
 
 -- a number of one byte more: the byte at its place and 256 times what follows
@@ -63,3 +63,21 @@ low-bytes (b ∷ s) h =
     let low : (b + 256 * lowFirst s) % 256 ≡ b = omega arith in
     let rest : (b + 256 * lowFirst s) / 256 ≡ lowFirst s = omega arith in
     simp (low, rest) (ap (λ (t : List ℕ). b ∷ t) (low-bytes s (λ i. h (suc i))))
+
+-- a number of n bytes of a row is below 256 ^ n, and its bytes are those of the row
+pub low-bound : (s : List ℕ) (at n : ℕ) → Octets s → lowFirst (take n (drop at s)) < 256 ^ n
+unfolding lowFirst
+low-bound s at zero h = omega arith
+low-bound s at (suc n) h = omega (arith, low-step s at n, low-bound s (suc at) n h, h at, pow-suc 256 n)
+
+pub part-bytes : (s : List ℕ) (at n : ℕ) → Octets s → at + n ≤ length s → bytesOf n (lowFirst (take n (drop at s))) ≡ take n (drop at s)
+unfolding bytesOf lowFirst
+part-bytes s at zero h fits = refl
+part-bytes s at (suc n) h fits =
+    let b : ℕ = getD s at 0 in
+    let rest : ℕ = lowFirst (take n (drop (suc at) s)) in
+    let here : b < 256 = h at in
+    let low : (b + 256 * rest) % 256 ≡ b = omega arith in
+    let high : (b + 256 * rest) / 256 ≡ rest = omega arith in
+    rw (drop-cons s at 0 (omega arith))
+    (simp (low, high) (ap (λ (t : List ℕ). b ∷ t) (part-bytes s (suc at) n h (omega arith))))

@@ -7,9 +7,9 @@ use mathlib.Core.Path.{_≡_, refl, sym, ap, _∙_}
 use mathlib.Core.List.{List, [], _∷_, _++_, append-assoc}
 use borrow.Author.Tests.{le-leb, lt-leb, leb-true, leb-false}
 use lib.Dec.{leb}
-use lib.ListN.{length, getD, take, drop, length-append, length-take, length-drop}
+use lib.ListN.{length, getD, take, drop, length-append, length-take, length-drop, take-append-drop}
 use native.Mathlib.Nat.{le-of-eq}
-use lib.Seq.{take-all, take-at, drop-at, take-append-seam, drop-cons, getD-take, getD-drop, length-take-le}
+use lib.Seq.{drop-drop, take-all, take-at, drop-at, take-append-seam, drop-cons, getD-take, getD-drop, length-take-le}
 use Rattle.octets.specs.Parts.{within, part, partPlace, putAt, oneByOne}
 
 -- a part that is there
@@ -92,3 +92,7 @@ one-by-one s i (suc n) h =
 -- what `&s[at..]` lends is all from that place on
 pub rest-is : (s : List ℕ) (at : ℕ) → take (length s - at) (drop at s) ≡ drop at s
 rest-is s at = take-all (length s - at) (drop at s) (le-of-eq (length-drop at s))
+
+-- a row is a part of it, and what follows
+pub chunk : (s : List ℕ) (at n : ℕ) (c rest : List ℕ) → c ≡ take n (drop at s) → rest ≡ drop (at + n) s → c ++ rest ≡ drop at s
+chunk s at n c rest e f = rw (e, f) (ap (λ (d : List ℕ). take n (drop at s) ++ d) (sym (drop-drop n at s)) ∙ take-append-drop n (drop at s))

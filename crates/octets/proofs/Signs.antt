@@ -30,6 +30,11 @@ signed-bits (negsuc x) f =
     let e : 65535 - (65536 - suc x) ≡ x = omega arith in
     signed-high (65536 - suc x) (omega arith) (omega arith) ∙ ap negsuc e
 
+pub bits-bound : (z : ℤ) → SFits w16 z → bitsOf z < 65536
+unfolding bitsOf
+bits-bound (pos x) f = let h : x < 32768 = f .sfits in omega arith
+bits-bound (negsuc x) f = omega arith
+
 pub bits-signed : (x : ℕ) → x < 65536 → bitsOf (signedOf x) ≡ x
 unfolding bitsOf
 bits-signed x h = by-half (ltb x 32768) refl
