@@ -96,3 +96,22 @@ rest-is s at = take-all (length s - at) (drop at s) (le-of-eq (length-drop at s)
 -- a row is a part of it, and what follows
 pub chunk : (s : List ℕ) (at n : ℕ) (c rest : List ℕ) → c ≡ take n (drop at s) → rest ≡ drop (at + n) s → c ++ rest ≡ drop at s
 chunk s at n c rest e f = rw (e, f) (ap (λ (d : List ℕ). take n (drop at s) ++ d) (sym (drop-drop n at s)) ∙ take-append-drop n (drop at s))
+
+-- bytes put one after another are put at once
+pub put-put : (o : List ℕ) (at : ℕ) (x y : List ℕ) → at + length x + length y ≤ length o → putAt (putAt o at x) (at + length x) y ≡ putAt o at (x ++ y)
+put-put o at x y fits =
+    let o' : List ℕ = putAt o at x in
+    let mid : ℕ = at + length x in
+    let both : length (x ++ y) ≡ length x + length y = length-append x y in
+    let first : at + length x ≤ length o = omega arith in
+    let front : take mid o' ≡ take at o ++ x =
+    ap (take mid) (put-is o at x first) ∙ take-at (take at o ++ x) (drop mid o) mid (length-append (take at o) x ∙ ap (λ (n : ℕ). n + length x) (length-take-le at o (omega arith))) in
+    let back : drop (mid + length y) o' ≡ drop (mid + length y) o =
+    sym (drop-drop (length y) mid o') ∙ ap (drop (length y)) (put-after o at x first) ∙ drop-drop (length y) mid o in
+    let ends : at + length (x ++ y) ≡ mid + length y = omega arith in
+    put-is o' mid y (omega (arith, length-put o at x))
+    ∙ ap (λ (l : List ℕ). l ++ y ++ drop (mid + length y) o') front
+    ∙ ap (λ (l : List ℕ). take at o ++ x ++ y ++ l) back
+    ∙ ap (λ (l : List ℕ). l ++ drop (mid + length y) o) (append-assoc (take at o) x y)
+    ∙ ap (λ (n : ℕ). take at o ++ (x ++ y) ++ drop n o) (sym ends)
+    ∙ sym (put-is o at (x ++ y) (omega arith))

@@ -91,6 +91,14 @@ part-verdict v from to b e = by-test (isGood v) refl e
     by-test true q e = e
     by-test false q e = e
 
+pub part-good : (v : Verdict) (from to : ℕ) → (partBy v from to .verdict ≡ v) × (isGood v ≡ true → partBy v from to .from ≡ from)
+unfolding partBy
+part-good v from to = by-test (isGood v) refl
+  where
+    by-test : (g : Bool) → isGood v ≡ g → (cond g (record { verdict = v; from = from; to = to }) (noPart v) .verdict ≡ v) × (isGood v ≡ true → cond g (record { verdict = v; from = from; to = to }) (noPart v) .from ≡ from)
+    by-test true q = (refl, λ e. refl)
+    by-test false q = (refl, λ e. absurd (false≢true (sym q ∙ e)))
+
 pub part-none : (v : Verdict) (from to : ℕ) → isGood (partBy v from to .verdict) ≡ false → partBy v from to ≡ noPart (partBy v from to .verdict)
 unfolding partBy
 part-none v from to e = by-test (isGood v) refl e
@@ -99,3 +107,15 @@ part-none v from to e = by-test (isGood v) refl e
         → cond g (record { verdict = v; from = from; to = to }) (noPart v) ≡ noPart (cond g (record { verdict = v; from = from; to = to }) (noPart v) .verdict)
     by-test true q e = absurd (true≢false (sym q ∙ e))
     by-test false q e = refl
+
+-- a part after some tests, and after more of them
+module _ (ts us : List Test) (from to : ℕ) where
+  pub part-stays : isGood (inOrder ts good) ≡ false → partBy (inOrder ts good) from to ≡ partBy (inOrder (ts ++ us) good) from to
+  part-stays e = ap (λ (v : Verdict). partBy v from to) (sym (joined-stays ts us good e))
+
+  pub part-refuses : refusing ts ≡ true → isGood (inOrder ts good) ≡ true → isGood (inOrder us good) ≡ false → noPart (inOrder us good) ≡ partBy (inOrder (ts ++ us) good) from to
+  unfolding partBy
+  part-refuses n g e = simp (joined-on ts us good n g, e)
+
+  pub part-passes : refusing ts ≡ true → refusing us ≡ true → isGood (inOrder ts good) ≡ true → isGood (inOrder us good) ≡ true → partBy (inOrder ts good) from to ≡ partBy (inOrder (ts ++ us) good) from to
+  part-passes n m g h = ap (λ (v : Verdict). partBy v from to) (good-is ts n g ∙ sym (joined-on ts us good n g ∙ good-is us m h))

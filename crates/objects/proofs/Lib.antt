@@ -1,0 +1,4 @@
+pub mod Typing
+pub mod Wording
+pub mod Filling
+pub mod Placed
