@@ -1,8 +1,9 @@
 -- The laws of a label: its two round trips, and how a judgement is reached. Assumes nothing.
-use Prim.Native.Nat.{ℕ}
+use Prim.Native.Nat.{ℕ, _<_}
 use native.Mathlib.Omega.{arith}
 use mathlib.Core.Path.{_≡_, refl, _∙_}
 use mathlib.Core.List.{List, [], _∷_, _++_}
+use lib.Dec.{lit<}
 use lib.ListN.{length, getD}
 use lib.Seq.{take-all}
 use Rattle.octets.proofs.Parts.{one-by-one}
@@ -21,3 +22,7 @@ bytes-label l rest = refl
 -- read and written back: the same six bytes
 pub label-bytes : (s : List ℕ) → length s ≡ 6 → labelBytes (labelOf s) ≡ s
 label-bytes s h = one-by-one s 0 6 (omega arith) ∙ take-all 6 s (omega arith)
+
+-- a label is its six bytes, wherever they stand
+pub label-same : (s t : List ℕ) → ((i : ℕ) → i < 6 → getD s i 0 ≡ getD t i 0) → labelOf s ≡ labelOf t
+label-same s t h = same t (labelOf s) (h 0 (lit< tt)) (h 1 (lit< tt)) (h 2 (lit< tt)) (h 3 (lit< tt)) (h 4 (lit< tt)) (h 5 (lit< tt))

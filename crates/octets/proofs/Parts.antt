@@ -115,3 +115,24 @@ put-put o at x y fits =
     ∙ ap (λ (l : List ℕ). l ++ drop (mid + length y) o) (append-assoc (take at o) x y)
     ∙ ap (λ (n : ℕ). take at o ++ (x ++ y) ++ drop n o) (sym ends)
     ∙ sym (put-is o at (x ++ y) (omega arith))
+
+-- a byte outside of what is put is as it was
+module _ (o : List ℕ) (at : ℕ) (bytes : List ℕ) (fits : at + length bytes ≤ length o) (i : ℕ) where
+  pub put-low : i < at → getD (putAt o at bytes) i 0 ≡ getD o i 0
+  put-low h = sym (getD-take at (putAt o at bytes) i 0 h) ∙ ap (λ (l : List ℕ). getD l i 0) (put-before o at bytes fits) ∙ getD-take at o i 0 h
+
+  pub put-high : at + length bytes ≤ i → getD (putAt o at bytes) i 0 ≡ getD o i 0
+  put-high h =
+      let there : at + length bytes + (i - (at + length bytes)) ≡ i = omega arith in
+      let j : ℕ = i - (at + length bytes) in
+      ap (λ (n : ℕ). getD (putAt o at bytes) n 0) (sym there)
+      ∙ sym (getD-drop (at + length bytes) (putAt o at bytes) j 0)
+      ∙ ap (λ (l : List ℕ). getD l j 0) (put-after o at bytes fits)
+      ∙ getD-drop (at + length bytes) o j 0
+      ∙ ap (λ (n : ℕ). getD o n 0) there
+
+-- from its place on stand the bytes that were put, then the rest
+pub put-from : (o : List ℕ) (at : ℕ) (bytes : List ℕ) → at + length bytes ≤ length o → drop at (putAt o at bytes) ≡ bytes ++ drop (at + length bytes) o
+put-from o at bytes fits =
+    ap (drop at) (put-is o at bytes fits ∙ append-assoc (take at o) bytes (drop (at + length bytes) o))
+    ∙ drop-at (take at o) (bytes ++ drop (at + length bytes) o) at (length-take-le at o (omega arith))
