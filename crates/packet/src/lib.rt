@@ -1,12 +1,12 @@
 // The packet: its judge, its header by value, and its writer.
 ghost use mathlib.Core.Path.{_≡_};
-ghost use Prim.Native.Nat.{_+_, _<_};
+ghost use Prim.Native.Nat.{_<_};
 ghost use denote.Ref.{ptr};
-ghost use lib.ListN.{getD};
 ghost use Rattle.kinds.specs.Table.{rows};
+ghost use Rattle.octets.specs.Parts.{oneByOne};
 ghost use Rattle.verdict.specs.Orders.{inOrder, good, partIn, placeIn};
-ghost use Rattle.packet.specs.Frames.{lengthOf, frameTests, headerTests, judgedContent, judgedPacket, unitPlace};
-ghost use Rattle.packet.specs.Headers.{headerOf, noHeader, openedPacket, headBytes, fieldTests, packetVerdict, writtenPacket};
+ghost use Rattle.packet.specs.Frames.{lengthOf, frameTests, judgedContent, judgedPacket, unitPlace};
+ghost use Rattle.packet.specs.Headers.{headerOf, noHeader, openedPacket, roomTests};
 use label::Label;
 use octets::byte_at;
 use verdict::Part;
@@ -99,4 +99,109 @@ pub fn judge(p: &[u8]) -> Verdict
         return v;
     }
     judge_content(p)
+}
+
+// The header's fields as they stand in a packet.
+fn header_of(p: &[u8]) -> Header
+    ensures { λ r. ⌜ r ≡ headerOf (now (p .entry)) ⌝ }
+{
+    Header {
+        serial: octets::two_at(p, 2),
+        version: byte_at(p, 5),
+        label: Label::read_at(p, 6),
+        source: six_at(p, 12),
+        destination: six_at(p, 18),
+        command: byte_at(p, 26),
+    }
+}
+
+// The six bytes of an address.
+fn six_at(p: &[u8], at: usize) -> [u8; 6]
+    requires { ⌜ at < 256 ⌝ }
+    ensures { λ r. ⌜ r ≡ oneByOne (now (p .entry)) at 6 ⌝ }
+{
+    [
+        byte_at(p, at),
+        byte_at(p, at + 1),
+        byte_at(p, at + 2),
+        byte_at(p, at + 3),
+        byte_at(p, at + 4),
+        byte_at(p, at + 5),
+    ]
+}
+
+// A packet's fields, L and the verdict.
+pub fn read(p: &[u8]) -> Opened
+    ensures { λ r. ⌜ r ≡ openedPacket rows (now (p .entry)) ⌝ }
+{
+    let verdict = judge(p);
+    if !verdict.is_good() {
+        return Opened {
+            verdict,
+            header: no_header(),
+            length: 0,
+        };
+    }
+    Opened {
+        verdict,
+        header: header_of(p),
+        length: length_of(p),
+    }
+}
+
+fn no_header() -> Header
+    ensures { λ r. ⌜ r ≡ noHeader ⌝ }
+{
+    Header {
+        serial: 0,
+        version: 0,
+        label: Label {
+            second: 0,
+            minute: 0,
+            hour: 0,
+            day: 0,
+            month: 0,
+            year: 0,
+        },
+        source: [0; 6],
+        destination: [0; 6],
+        command: 0,
+    }
+}
+
+// Where a packet's unit stands.
+pub fn unit_place(p: &[u8]) -> Part
+    ensures { λ r. ⌜ r ≡ unitPlace rows (now (p .entry)) ⌝ }
+{
+    let verdict = judge(p);
+    if !verdict.is_good() {
+        return Part::refused(verdict);
+    }
+    Part {
+        verdict,
+        from: 27,
+        to: 27 + length_of(p),
+    }
+}
+
+// A packet's unit as that part of the caller's own bytes.
+pub fn unit_of(p: &[u8]) -> &[u8]
+    ensures { λ r. ⌜ now r ≡ partIn (now (p .entry)) (unitPlace rows (now (p .entry))) ⌝ }
+    ensures { λ r. ⌜ ptr r ≡ placeIn (ptr (p .entry)) (now (p .entry)) (unitPlace rows (now (p .entry))) ⌝ }
+{
+    let q = unit_place(p);
+    octets::part_of(p, q.from, q.to)
+}
+
+// LENGTH and ROOM for so many bytes of an output.
+fn judge_room(out: &[u8], length: usize, needed: usize) -> Verdict
+    ensures { λ r. ⌜ r ≡ inOrder (roomTests (now (out .entry)) length needed) good ⌝ }
+{
+    if 1024 < length {
+        return Verdict::refused(verdict::LENGTH, 0);
+    }
+    if out.len() < needed {
+        return Verdict::refused(verdict::ROOM, 0);
+    }
+    Verdict::good()
 }
