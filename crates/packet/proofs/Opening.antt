@@ -1,19 +1,16 @@
--- One law for each answer of the header's reading, the unit's place and the room of an output. Assumes nothing.
-use Prim.Native.Nat.{ℕ, _+_, _≤_, _<_}
+-- One law for each answer of the header's reading and the unit's place. Assumes nothing.
+use Prim.Native.Nat.{ℕ, _+_}
 use mathlib.Core.Bool.{true, false}
 use mathlib.Core.List.{List}
 use mathlib.Core.Path.{_≡_, refl, sym, ap, _∙_}
-use borrow.Author.Tests.{le-leb, lt-leb}
-use lib.ListN.{length}
 use Rattle.kinds.specs.declared.Row.{Row}
 use Rattle.verdict.specs.declared.Verdict.{Verdict}
 use Rattle.verdict.specs.declared.Part.{Part}
-use Rattle.verdict.specs.Orders.{inOrder, refusal, good, isGood, noPart, partBy}
-use Rattle.verdict.specs.Refusals.{LENGTH, ROOM}
+use Rattle.verdict.specs.Orders.{isGood, noPart, partBy}
 use Rattle.packet.specs.declared.Header.{Header}
 use Rattle.packet.specs.declared.Opened.{Opened}
 use Rattle.packet.specs.Frames.{lengthOf, judgedPacket, unitPlace}
-use Rattle.packet.specs.Headers.{headerOf, noHeader, openedPacket, roomTests}
+use Rattle.packet.specs.Headers.{headerOf, noHeader, openedPacket}
 
 module _ (rs : List Row) (p : List ℕ) (v : Verdict) (told : v ≡ judgedPacket rs p) where
   alike : {h g : Header} {l m : ℕ} → h ≡ g → l ≡ m → _≡_ {A = Opened} (record { verdict = v; header = h; length = l }) (record { verdict = judgedPacket rs p; header = g; length = m })
@@ -35,18 +32,5 @@ module _ (rs : List Row) (p : List ℕ) (v : Verdict) (told : v ≡ judgedPacket
   unfolding unitPlace partBy
   unit-there l e b =
       let q : _≡_ {A = Part} (record { verdict = v; from = 27; to = 27 + l }) (record { verdict = judgedPacket rs p; from = 27; to = 27 + lengthOf p }) =
-          λ i. record { verdict = told i; from = 27; to = 27 + b i } in
+      λ i. record { verdict = told i; from = 27; to = 27 + b i } in
       q ∙ simp (ap isGood (sym told) ∙ e)
-
-module _ (out : List ℕ) (l n : ℕ) where
-  pub length-over : 1024 < l → refusal LENGTH 0 ≡ inOrder (roomTests out l n) good
-  unfolding inOrder
-  length-over h = simp (lt-leb l 1024 h)
-
-  pub no-room : l ≤ 1024 → length out < n → refusal ROOM 0 ≡ inOrder (roomTests out l n) good
-  unfolding inOrder
-  no-room m h = simp (le-leb l 1024 m, lt-leb n (length out) h)
-
-  pub room : l ≤ 1024 → n ≤ length out → good ≡ inOrder (roomTests out l n) good
-  unfolding inOrder
-  room m h = simp (le-leb l 1024 m, le-leb n (length out) h)

@@ -1,22 +1,18 @@
 -- A packet's header by value, read and written (document 01, "Packet").
 -- Assumes nothing.
-use Prim.Native.Nat.{ℕ, _+_, _%_}
+use Prim.Native.Nat.{ℕ, _%_}
 use mathlib.Core.Bool.{cond}
 use mathlib.Core.List.{List, [], _∷_, _++_}
-use lib.Dec.{leb}
 use lib.ListN.{length, getD, take, drop, replicate}
 use Rattle.kinds.specs.declared.Row.{Row}
-use Rattle.label.specs.Times.{labelOf, labelBytes, judged, allowed}
+use Rattle.label.specs.Times.{labelOf, labelBytes}
 use Rattle.octets.specs.Numbers.{lowFirst, bytesOf}
-use Rattle.octets.specs.Parts.{part, putAt, oneByOne}
+use Rattle.octets.specs.Parts.{oneByOne}
 use Rattle.octets.specs.Sums.{total}
-use Rattle.unit.specs.Units.{judgedUnder}
-use Rattle.verdict.specs.declared.Verdict.{Verdict}
-use Rattle.verdict.specs.Orders.{Test, _or-else_, inOrder, good, isGood}
-use Rattle.verdict.specs.Refusals.{LENGTH, ROOM, COMMAND, TIME}
+use Rattle.verdict.specs.Orders.{isGood}
 use Rattle.packet.specs.declared.Header.{Header}
 use Rattle.packet.specs.declared.Opened.{Opened}
-use Rattle.packet.specs.Frames.{lengthOf, isCommand, judgedPacket}
+use Rattle.packet.specs.Frames.{lengthOf, judgedPacket}
 
 -- "3-4 serial; 6 user version; 7-12 time label; 13-18, 19-24 source, destination; 27 command"
 abbrev pub headerOf : List ℕ → Header
@@ -53,17 +49,3 @@ tailBytes sealed = total sealed % 256 ∷ 35 ∷ 35 ∷ []
 -- a packet, from its header's fields and its unit
 unfoldable pub packetBytes : Header → List ℕ → List ℕ
 packetBytes h u = headBytes h (length u) ++ (u ++ tailBytes (drop 2 (headBytes h (length u)) ++ u))
-
--- "Packet writer: LENGTH, ROOM, then the judge's order from COMMAND"
-abbrev pub roomTests : List ℕ → ℕ → ℕ → List Test
-roomTests out l n = (leb l 1024 or-else LENGTH) ∷ (leb n (length out) or-else ROOM) ∷ []
-
-abbrev pub fieldTests : Header → List Test
-fieldTests h = (isCommand (h .command) or-else COMMAND) ∷ (allowed (judged (h .label)) or-else TIME) ∷ []
-
-unfoldable pub packetVerdict : List Row → List ℕ → Header → ℕ → Verdict
-packetVerdict rs out h l = inOrder (roomTests out l (30 + l)) (inOrder (fieldTests h) (judgedUnder rs (h .command) (part out 27 (27 + l))))
-
--- "an output in which the unit already stands from byte 28; it writes the other bytes"
-unfoldable pub writtenPacket : List Row → List ℕ → Header → ℕ → List ℕ
-writtenPacket rs out h l = cond (isGood (packetVerdict rs out h l)) (putAt out 0 (packetBytes h (part out 27 (27 + l)))) out

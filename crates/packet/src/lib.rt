@@ -6,7 +6,7 @@ ghost use Rattle.kinds.specs.Table.{rows};
 ghost use Rattle.octets.specs.Parts.{oneByOne};
 ghost use Rattle.verdict.specs.Orders.{inOrder, good, partIn, placeIn};
 ghost use Rattle.packet.specs.Frames.{lengthOf, frameTests, judgedContent, judgedPacket, unitPlace};
-ghost use Rattle.packet.specs.Headers.{headerOf, noHeader, openedPacket, roomTests};
+ghost use Rattle.packet.specs.Headers.{headerOf, noHeader, openedPacket};
 use label::Label;
 use octets::byte_at;
 use verdict::Part;
@@ -191,17 +191,4 @@ pub fn unit_of(p: &[u8]) -> &[u8]
 {
     let q = unit_place(p);
     octets::part_of(p, q.from, q.to)
-}
-
-// LENGTH and ROOM for so many bytes of an output.
-fn judge_room(out: &[u8], length: usize, needed: usize) -> Verdict
-    ensures { λ r. ⌜ r ≡ inOrder (roomTests (now (out .entry)) length needed) good ⌝ }
-{
-    if 1024 < length {
-        return Verdict::refused(verdict::LENGTH, 0);
-    }
-    if out.len() < needed {
-        return Verdict::refused(verdict::ROOM, 0);
-    }
-    Verdict::good()
 }

@@ -36,7 +36,7 @@ returns c =
       label = c .before .before .before .read-at .ensures i;
       source = c .before .before .six-at .ensures i;
       destination = c .before .six-at2 .ensures i;
-      command = c .byte-at2 .ensures i
+      command = c .byte-at2 .ensures i;
     }
 
 pub header-of-spec : {M : Type 1} → statement M

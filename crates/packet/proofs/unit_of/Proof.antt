@@ -17,9 +17,10 @@ part-of-requires c κs = search needs
 
 returns : tie.Need-returns
 returns c =
-    let e = c .before .unit-place .ensures in
-    ( c .part-of .ensures .0 ∙ ap (partIn (c .before .before .before .args .p .now)) e
-    , c .part-of .ensures .1 ∙ ap (placeIn (c .before .before .before .args .p .ptr) (c .before .before .before .args .p .now)) e )
+    let e = c .before .unit-place .ensures in (
+      c .part-of .ensures .0 ∙ ap (partIn (c .before .before .before .args .p .now)) e,
+      c .part-of .ensures .1 ∙ ap (placeIn (c .before .before .before .args .p .ptr) (c .before .before .before .args .p .now)) e,
+    )
 
 pub unit-of-spec : {M : Type 1} → statement M
 unit-of-spec = tie.close (tie.spec unit-place-requires part-of-requires returns)

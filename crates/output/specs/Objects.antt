@@ -11,15 +11,15 @@ use Rattle.objects.specs.Texts.{textVerdict, writtenText}
 use Rattle.octets.specs.Parts.{part, putAt}
 use Rattle.verdict.specs.declared.Verdict.{Verdict}
 use Rattle.verdict.specs.Orders.{inOrder, good, isGood}
-use Rattle.packet.specs.Headers.{roomTests}
+use Rattle.output.specs.Writing.{roomTests}
 
 -- LENGTH, ROOM by what is written there, then the object writer's own
 unfoldable pub objectVerdict : List Row → List ℕ → ℕ → ℕ → Fields → List ℕ → Verdict
-objectVerdict rs out l k f d = inOrder (roomTests out l (27 + l)) (writeVerdict rs (part out 27 (27 + l)) k f d)
+objectVerdict rs out l k f d = inOrder (roomTests out l 27) (writeVerdict rs (part out 27 (27 + l)) k f d)
 
 unfoldable pub writtenObject : List Row → List ℕ → ℕ → ℕ → Fields → List ℕ → List ℕ
 writtenObject rs out l k f d =
-    cond (isGood (inOrder (roomTests out l (27 + l)) good)) (putAt out 27 (writtenUnit rs (part out 27 (27 + l)) k f d)) out
+    cond (isGood (inOrder (roomTests out l 27) good)) (putAt out 27 (writtenUnit rs (part out 27 (27 + l)) k f d)) out
 
 -- the type 26 writer has all from byte 28 on
 abbrev pub outputTextVerdict : List ℕ → List ℕ → Verdict
