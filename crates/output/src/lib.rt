@@ -111,3 +111,34 @@ fn head_bytes(header: Header, length: usize) -> [u8; 27]
         header.command,
     ]
 }
+
+// An object written into the unit that stands from byte 28 of a packet's output.
+pub fn write_object(
+    out: &mut [u8],
+    length: usize,
+    number: usize,
+    fields: Fields,
+    description: &[u8],
+) -> Verdict
+    ensures { λ r. ⌜ r ≡ objectVerdict rows (now (out .entry)) length number fields (now (description .entry)) ⌝ }
+    ensures { λ r. ⌜ now (out .exit) ≡ writtenObject rows (now (out .entry)) length number fields (now (description .entry)) ⌝ }
+{
+    let v = judge_room(out, length, 27);
+    if !v.is_good() {
+        return v;
+    }
+    let end = 27 + length;
+    objects::write(&mut out[27..end], number, fields, description)
+}
+
+// A unit of type 26 written from byte 28 of a packet's output on.
+pub fn write_text(out: &mut [u8], text: &[u8]) -> Verdict
+    ensures { λ r. ⌜ r ≡ outputTextVerdict (now (out .entry)) (now (text .entry)) ⌝ }
+    ensures { λ r. ⌜ now (out .exit) ≡ writtenOutputText (now (out .entry)) (now (text .entry)) ⌝ }
+{
+    let n = out.len();
+    if n < 27 {
+        return objects::write_text(&mut out[n..], text);
+    }
+    objects::write_text(&mut out[27..], text)
+}

@@ -1,0 +1,118 @@
+-- A part of the output that is lent comes home as bytes put where it stands. Assumes nothing.
+use Prim.Native.Nat.{ℕ, _+_, _-_, _≤_, _<_}
+use native.Mathlib.Nat.{sub-self}
+use native.Mathlib.Omega.{arith}
+use mathlib.Core.Bool.{Bool, true, false, cond}
+use mathlib.Core.List.{List, [], _∷_, _++_, append-assoc, append-nil}
+use mathlib.Core.Path.{_≡_, refl, sym, ap, _∙_}
+use lib.ListN.{length, take, drop, length-drop, drop-of-length-le}
+use lib.Seq.{take-all, drop-drop}
+use Rattle.fields.specs.declared.Fields.{Fields}
+use Rattle.fields.specs.Layouts.{objectBytes}
+use Rattle.kinds.specs.declared.Row.{Row}
+use Rattle.objects.specs.Writing.{writeVerdict, writtenUnit}
+use Rattle.objects.specs.Texts.{textUnit, textVerdict, writtenText}
+use Rattle.octets.specs.Parts.{part, putAt}
+use Rattle.octets.proofs.Parts.{part-is, length-part, put-is, length-put, rest-is}
+use Rattle.octets.proofs.Rows.{no-elements}
+use Rattle.unit.specs.Objects.{objectAt}
+use Rattle.unit.specs.Units.{rowOf}
+use Rattle.verdict.specs.declared.Verdict.{Verdict}
+use Rattle.verdict.specs.Orders.{inOrder, good, isGood}
+use Rattle.verdict.proofs.Order.{stays, goes-on}
+use Rattle.output.specs.Writing.{roomTests}
+use Rattle.output.specs.Objects.{objectVerdict, writtenObject, writtenOutputText}
+use Rattle.output.proofs.Judging.{roomy}
+
+home : (o : List ℕ) (at n : ℕ) (v : List ℕ) → at + n ≤ length o → length v ≡ n → take at o ++ (v ++ drop n (drop at o)) ≡ putAt o at v
+home o at n v fits e =
+    ap (λ (x : List ℕ). take at o ++ (v ++ x)) (drop-drop n at o ∙ ap (λ (k : ℕ). drop (at + k) o) (sym e))
+    ∙ sym (append-assoc (take at o) v (drop (at + length v) o))
+    ∙ sym (put-is o at v (omega arith))
+
+-- a written unit and a written text are as long as what was lent
+length-unit : (rs : List Row) (u : List ℕ) (k : ℕ) (f : Fields) (d : List ℕ) → length (writtenUnit rs u k f d) ≡ length u
+unfolding writtenUnit
+length-unit rs u k f d = by-test (isGood (writeVerdict rs u k f d))
+  where
+    by-test : (b : Bool) → length (cond b (putAt u (objectAt (rowOf rs u) u k) (objectBytes f d)) u) ≡ length u
+    by-test true = length-put u (objectAt (rowOf rs u) u k) (objectBytes f d)
+    by-test false = refl
+
+length-text : (out t : List ℕ) → length (writtenText out t) ≡ length out
+unfolding writtenText
+length-text out t = by-test (isGood (textVerdict out t))
+  where
+    by-test : (b : Bool) → length (cond b (putAt out 0 (textUnit t)) out) ≡ length out
+    by-test true = length-put out 0 (textUnit t)
+    by-test false = refl
+
+module _ (rs : List Row) (o : List ℕ) (l k : ℕ) (f : Fields) (d : List ℕ) where
+  pub object-refused : (v : Verdict) → v ≡ inOrder (roomTests o l 27) good → isGood v ≡ false → (v ≡ objectVerdict rs o l k f d) × (o ≡ writtenObject rs o l k f d)
+  unfolding objectVerdict writtenObject
+  object-refused v e b =
+      let r = ap isGood (sym e) ∙ b in
+      (e ∙ sym (stays (roomTests o l 27) (writeVerdict rs (part o 27 (27 + l)) k f d) r), simp r)
+
+  module _ (g : isGood (inOrder (roomTests o l 27) good) ≡ true) where
+    fits : 27 + l ≤ length o
+    fits = roomy o l 27 g .1
+
+    lent : take (27 + l - 27) (drop 27 o) ≡ part o 27 (27 + l)
+    lent = sym (part-is o 27 (27 + l) (omega arith) fits)
+
+    long : length (part o 27 (27 + l)) ≡ 27 + l - 27
+    long = length-part o 27 (27 + l) (omega arith) fits
+
+    pub object-verdict : (v : Verdict) → v ≡ writeVerdict rs (take (27 + l - 27) (drop 27 o)) k f d → v ≡ objectVerdict rs o l k f d
+    unfolding objectVerdict
+    object-verdict v e =
+        e ∙ ap (λ (u : List ℕ). writeVerdict rs u k f d) lent ∙ sym (goes-on (roomTests o l 27) (writeVerdict rs (part o 27 (27 + l)) k f d) refl g)
+
+    pub object-home : (w : List ℕ) → w ≡ writtenUnit rs (take (27 + l - 27) (drop 27 o)) k f d → take 27 o ++ (w ++ drop (27 + l - 27) (drop 27 o)) ≡ writtenObject rs o l k f d
+    unfolding writtenObject
+    object-home w e =
+        let u : List ℕ = part o 27 (27 + l) in
+        let there : w ≡ writtenUnit rs u k f d = e ∙ ap (λ (x : List ℕ). writtenUnit rs x k f d) lent in
+        home o 27 (27 + l - 27) w (omega (arith, fits)) (ap length there ∙ length-unit rs u k f d ∙ long)
+        ∙ ap (putAt o 27) there
+        ∙ simp g
+
+module _ (o t : List ℕ) where
+  -- an output that does not reach byte 28 lends nothing
+  none : length o < 27 → drop 27 o ≡ []
+  none h = let past : length o ≤ 27 = omega arith in drop-of-length-le o past
+
+  nothing : take (length o - length o) (drop (length o) o) ≡ []
+  nothing = ap (λ (n : ℕ). take n (drop (length o) o)) (sub-self (length o))
+
+  pub short-verdict : (v : Verdict) → length o < 27 → v ≡ textVerdict (take (length o - length o) (drop (length o) o)) t → v ≡ textVerdict (drop 27 o) t
+  short-verdict v h e = e ∙ ap (λ (x : List ℕ). textVerdict x t) (nothing ∙ sym (none h))
+
+  pub short-home : (w : List ℕ) → length o < 27 → w ≡ writtenText (take (length o - length o) (drop (length o) o)) t
+      → take (length o) o ++ (w ++ drop (length o - length o) (drop (length o) o)) ≡ writtenOutputText o t
+  unfolding writtenOutputText
+  short-home w h e =
+      let empty : writtenText [] t ≡ [] = no-elements (writtenText [] t) (length-text [] t) in
+      let was : w ≡ [] = e ∙ ap (λ (x : List ℕ). writtenText x t) nothing ∙ empty in
+      let rest : drop (length o - length o) (drop (length o) o) ≡ [] =
+      ap (λ (n : ℕ). drop n (drop (length o) o)) (sub-self (length o)) ∙ (let past : length o ≤ length o = omega arith in drop-of-length-le o past) in
+      ap (λ (x : List ℕ). take (length o) o ++ (x ++ drop (length o - length o) (drop (length o) o))) was
+      ∙ ap (λ (x : List ℕ). take (length o) o ++ x) rest
+      ∙ append-nil (take (length o) o)
+      ∙ take-all (length o) o (omega arith)
+      ∙ sym (take-all 27 o (omega arith))
+      ∙ sym (append-nil (take 27 o))
+      ∙ ap (λ (x : List ℕ). take 27 o ++ x) (sym empty)
+      ∙ ap (λ (x : List ℕ). take 27 o ++ writtenText x t) (sym (none h))
+
+  pub text-verdict : (v : Verdict) → v ≡ textVerdict (take (length o - 27) (drop 27 o)) t → v ≡ textVerdict (drop 27 o) t
+  text-verdict v e = e ∙ ap (λ (x : List ℕ). textVerdict x t) (rest-is o 27)
+
+  pub text-home : (w : List ℕ) → w ≡ writtenText (take (length o - 27) (drop 27 o)) t → take 27 o ++ (w ++ drop (length o - 27) (drop 27 o)) ≡ writtenOutputText o t
+  unfolding writtenOutputText
+  text-home w e =
+      let past : length (drop 27 o) ≤ length o - 27 = omega (arith, length-drop 27 o) in
+      ap (λ (x : List ℕ). take 27 o ++ (w ++ x)) (drop-of-length-le (drop 27 o) past)
+      ∙ ap (λ (x : List ℕ). take 27 o ++ x) (append-nil w)
+      ∙ ap (λ (x : List ℕ). take 27 o ++ x) (e ∙ ap (λ (x : List ℕ). writtenText x t) (rest-is o 27))
