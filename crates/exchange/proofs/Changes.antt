@@ -1,0 +1,145 @@
+-- What each call changes and what it leaves: a refused call nothing, a beginning and a reply one place, a tick each place by the rule for one.
+-- By the calls' definitions. Assumes nothing.
+use Prim.Native.Nat.{ℕ, _<_}
+use native.Mathlib.Omega.{arith}
+use mathlib.Core.Bool.{Bool, true, false, cond}
+use mathlib.Core.List.{List}
+use mathlib.Core.Path.{_≡_, refl, ap, subst, subst⁻¹, _∙_}
+use borrow.Author.Tests.{not-true, not-false}
+use lib.ListN.{getD, set, replicate}
+use Rattle.octets.specs.Searches.{firstFit}
+use Rattle.octets.proofs.Searches.{first-fits, first-none}
+use Rattle.verdict.specs.Orders.{good, isGood, inOrder}
+use Rattle.place.specs.declared.Place.{Place}
+use Rattle.place.specs.declared.Reply.{Reply}
+use Rattle.place.specs.declared.Outcome.the-variants.{Nothing}
+use Rattle.place.specs.Rules.{opened, isOpen}
+use Rattle.place.specs.Steps.{ticked, replied}
+use Rattle.exchange.specs.declared.Exchanges.{Exchanges}
+use Rattle.exchange.specs.declared.Told.{Told}
+use Rattle.exchange.specs.declared.Begun.{Begun}
+use Rattle.exchange.specs.declared.Replied.{Replied}
+use Rattle.exchange.specs.declared.Ticked.{Ticked}
+use Rattle.places.specs.Rows.{placeAt, freeAt, lowestFree, isOpenAs, upward, unopened, serialFor, fitting, report, nothing, swept}
+use Rattle.exchange.specs.Table.{found, placed, modeOf, entered, begun, replyTests, answered, ticking}
+use Rattle.exchange.specs.Calls.{Call, begin, reply, tick, verdictOf, after}
+use Rattle.places.proofs.Serials.{serial-unopened, serial-first}
+use Rattle.places.proofs.Rules.{unchanged}
+use Rattle.exchange.proofs.Answers.{found-place}
+use Rattle.exchange.proofs.Kept.{aged-at, told-at}
+
+-- "A refusal returns its number and place .., zero or nothing for all else, .. gives the state back as it came"
+module _ (x : Exchanges) where
+  pub begin-refused : (m : Told) → isGood (begun x m .verdict) ≡ false
+      → begun x m ≡ record { verdict = begun x m .verdict; place = 0; serial = 0; state = x }
+  unfolding begun found
+  begin-refused m e = simp e
+
+  pub reply-refused : (s : ℕ) (w : Reply) → isGood (answered x s w .verdict) ≡ false
+      → answered x s w ≡ record { verdict = answered x s w .verdict; place = 0; outcome = Nothing; state = x }
+  unfolding answered
+  reply-refused s w e = simp e
+
+  pub tick-refused : isGood (ticking x .verdict) ≡ false
+      → ticking x ≡ record { verdict = ticking x .verdict; reports = replicate 16 nothing; state = x }
+  unfolding ticking
+  tick-refused e = simp e
+
+-- so a refused call changes nothing
+pub refused-same : (x : Exchanges) (c : Call) → isGood (verdictOf x c) ≡ false → after x c ≡ x
+unfolding verdictOf after
+refused-same x (begin m) e = ap (λ (y : Begun). y .state) (begin-refused x m e)
+refused-same x (reply s w) e = ap (λ (y : Replied). y .state) (reply-refused x s w e)
+refused-same x tick e = ap (λ (y : Ticked). y .state) (tick-refused x e)
+
+-- a beginning that is not refused
+module _ (x : Exchanges) (m : Told) (e : isGood (begun x m .verdict) ≡ true) where
+  begun-place : begun x m .place ≡ lowestFree (x .places) 0 16
+  unfolding begun found
+  begun-place = simp e
+
+  begun-serial : begun x m .serial ≡ serialFor (x .places) 0 16 (x .next)
+  unfolding begun found
+  begun-serial = simp e
+
+  pub begun-state : begun x m .state ≡ entered x (begun x m .place) (begun x m .serial) (modeOf m)
+  unfolding begun
+  begun-state = simp e
+
+  -- the serial given is not open, whatever the table
+  pub given-unopened : isOpenAs (x .places) 0 16 (begun x m .serial) ≡ false
+  given-unopened =
+      subst⁻¹ (λ (s : ℕ). isOpenAs (x .places) 0 16 s ≡ false) begun-serial (serial-unopened (x .places) 0 16 (x .next) (omega arith))
+
+  -- it is the first such from the next one upward
+  pub given-first : (begun x m .serial ≡ upward (x .next) (firstFit (unopened (x .places) 0 16 (x .next)) 0 16))
+      × ((j : ℕ) → j < firstFit (unopened (x .places) 0 16 (x .next)) 0 16 → isOpenAs (x .places) 0 16 (upward (x .next) j) ≡ true)
+  unfolding serialFor
+  given-first = (begun-serial, serial-first (x .places) 0 16 (x .next))
+
+  -- the one after it is then next
+  pub given-next : begun x m .state .next ≡ upward (begun x m .serial) 1
+  given-next = ap (λ (y : Exchanges). y .next) begun-state
+
+  -- the place taken was free, and all below it are open
+  begun-inside : begun x m .place < 16
+  unfolding begun
+  begun-inside = found-place x e
+
+  pub taken-free : isOpen (placeAt (x .places) (begun x m .place) .mode) ≡ false
+  unfolding lowestFree
+  taken-free =
+      subst⁻¹ (λ (k : ℕ). isOpen (placeAt (x .places) k .mode) ≡ false) begun-place
+      (not-true (isOpen (placeAt (x .places) (lowestFree (x .places) 0 16) .mode)) (first-fits (freeAt (x .places)) 0 16 (subst (λ (k : ℕ). k < 16) begun-place begun-inside)))
+
+  pub taken-lowest : (k : ℕ) → k < begun x m .place → isOpen (placeAt (x .places) k .mode) ≡ true
+  unfolding lowestFree
+  taken-lowest k h =
+      not-false (isOpen (placeAt (x .places) k .mode))
+      (first-none (freeAt (x .places)) 0 16 k (omega arith) (subst (λ (n : ℕ). k < n) begun-place h))
+
+  -- no other place changes
+  pub begin-others : (k : ℕ) → (k ≡ begun x m .place → ⊥) → placeAt (begun x m .state .places) k ≡ placeAt (x .places) k
+  begin-others k h =
+      ap (λ (y : Exchanges). placeAt (y .places) k) begun-state
+      ∙ unchanged (x .places) (begun x m .place) (opened (begun x m .serial) (modeOf m)) k h
+
+-- a reply changes one place at most
+pub reply-others : (x : Exchanges) (s : ℕ) (w : Reply) (k : ℕ) → (k ≡ answered x s w .place → ⊥)
+    → placeAt (answered x s w .state .places) k ≡ placeAt (x .places) k
+unfolding answered
+reply-others x s w k = by-test (isGood (inOrder (replyTests x s w) good))
+  where
+    n : ℕ
+    n = fitting (x .places) 0 16 s w
+
+    q : Place
+    q = replied (x .resends) w (placeAt (x .places) n) .place
+
+    by-test : (b : Bool) → (k ≡ cond b n 0 → ⊥) → placeAt (cond b (placed x (set (x .places) n q)) x .places) k ≡ placeAt (x .places) k
+    by-test true h = unchanged (x .places) n q k h
+    by-test false h = refl
+
+-- a reply and a tick change nothing beside the places
+rest : (x : Exchanges) (b : Bool) (ps : List Place) → cond b (placed x ps) x ≡ placed x (cond b (placed x ps) x .places)
+rest x true ps = refl
+rest x false ps = refl
+
+pub reply-rest : (x : Exchanges) (s : ℕ) (w : Reply) → answered x s w .state ≡ placed x (answered x s w .state .places)
+unfolding answered
+reply-rest x s w = rest x (isGood (inOrder (replyTests x s w) good)) _
+
+pub tick-rest : (x : Exchanges) → ticking x .state ≡ placed x (ticking x .state .places)
+unfolding ticking
+tick-rest x = rest x (isGood (ticking x .verdict)) _
+
+-- a tick makes of each place, and tells of it, what the rule for one place says
+pub tick-each : (x : Exchanges) → isGood (ticking x .verdict) ≡ true → (k : ℕ)
+    → placeAt (ticking x .state .places) k ≡ ticked (x .timeout) (x .resends) (placeAt (x .places) k) .place
+unfolding ticking swept
+tick-each x e k = simp e (aged-at (x .timeout) (x .resends) (x .places) k)
+
+pub tick-tells : (x : Exchanges) → isGood (ticking x .verdict) ≡ true → (k : ℕ)
+    → getD (ticking x .reports) k nothing ≡ report (x .timeout) (x .resends) (placeAt (x .places) k)
+unfolding ticking swept
+tick-tells x e k = simp e (told-at (x .timeout) (x .resends) (x .places) k)

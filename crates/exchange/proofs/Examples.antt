@@ -1,0 +1,126 @@
+-- Document 01's examples 6, 7 and 8 and the readings of the exchange table, by computation. Assumes nothing.
+use Prim.Native.Nat.{ℕ}
+use mathlib.Core.List.{List, [], _∷_, _++_, map}
+use mathlib.Core.Path.{_≡_, refl}
+use lib.ListN.{getD, take, replicate}
+use Rattle.octets.specs.Searches.{firstFit, anyFits}
+use Rattle.verdict.specs.Orders.{inOrder}
+use Rattle.verdict.specs.Refusals.{STATE, SETTING, FULL, STRAY}
+use Rattle.place.specs.declared.Mode.the-variants.{Free, Send, Request}
+use Rattle.place.specs.declared.Place.{Place}
+use Rattle.place.specs.declared.Reply.the-variants.{Confirm, Answer, Deny, BadAnswer}
+use Rattle.place.specs.declared.Outcome.the-variants.{Confirmed, Answered, Resent, Failed}
+use Rattle.place.specs.Rules.{opened, free, isZero, holds, keeps}
+use Rattle.place.specs.Steps.{counted, denied, ticked, fits, replied, codeOf}
+use Rattle.exchange.specs.declared.Exchanges.{Exchanges}
+use Rattle.exchange.specs.declared.Told.the-variants as told
+use Rattle.places.specs.declared.Report.{Report}
+use Rattle.places.specs.Rows.{lowestFree, isOpenAs, twice, allKeep, serialFor, fitting, nothing, swept}
+use Rattle.exchange.specs.Table.{legal, blank, made, found, begun, answered, ticking}
+use Rattle.exchange.specs.Calls.{Call, begin, reply, tick, after, run}
+
+-- a call's answer in numbers: the refusal or 0, then of a beginning the place, the serial and the serial that is then next, of a reply the
+-- place and the outcome, of a tick the serial told of the first place and the outcome of each
+abbrev answer : Exchanges → Call → List ℕ
+answer x (begin m) = begun x m .verdict .number ∷ begun x m .place ∷ begun x m .serial ∷ begun x m .state .next ∷ []
+answer x (reply s w) = answered x s w .verdict .number ∷ answered x s w .place ∷ codeOf (answered x s w .outcome) ∷ []
+answer x tick =
+    ticking x .verdict .number ∷ getD (ticking x .reports) 0 nothing .serial ∷ map (λ (r : Report). codeOf (r .outcome)) (ticking x .reports)
+
+abbrev answers : Exchanges → List Call → List (List ℕ)
+answers x [] = []
+answers x (c ∷ cs) = answer x c ∷ answers (after x c) cs
+
+-- a table, calls on it, what they answer, and the first two places after them
+pub record Example : Type 0 where
+  pub start : Exchanges
+  pub calls : List Call
+  pub told : List (List ℕ)
+  pub left : List Place
+
+abbrev example : Exchanges → List Call → List (List ℕ) → List Place → Example
+example x cs a ps = record { start = x; calls = cs; told = a; left = ps }
+
+-- a table with these places first and this serial next
+abbrev table : List Place → ℕ → ℕ → ℕ → Exchanges
+table ps n t r = record { places = take 16 (ps ++ replicate 16 free); next = n; timeout = t; resends = r }
+
+abbrev both-free : List Place
+both-free = free ∷ free ∷ []
+
+-- what a tick answers whose first place has this serial and this outcome
+abbrev first : ℕ → ℕ → List ℕ
+first s o = 0 ∷ s ∷ o ∷ replicate 15 0
+
+-- what a call answers that was refused: a beginning, a reply, a tick
+abbrev no-begin : ℕ → ℕ → List ℕ
+no-begin n next = n ∷ 0 ∷ 0 ∷ next ∷ []
+
+abbrev no-reply : ℕ → List ℕ
+no-reply n = n ∷ 0 ∷ 0 ∷ []
+
+abbrev no-tick : ℕ → List ℕ
+no-tick n = n ∷ 0 ∷ replicate 16 0
+
+-- all three on a state that breaks the rules
+abbrev broken : Exchanges → Example
+broken x =
+    example x (begin told.Send ∷ reply 7 Deny ∷ tick ∷ []) (no-begin STATE (x .next) ∷ no-reply STATE ∷ no-tick STATE ∷ []) (take 2 (x .places))
+
+abbrev pub examples : List Example
+examples =
+    -- 6. "T 1, R 0: begin, tick: failed"
+    example (made 1 0 .state) (begin told.Send ∷ tick ∷ []) ((0 ∷ 0 ∷ 0 ∷ 1 ∷ []) ∷ first 0 (codeOf Failed) ∷ []) both-free
+    -- 7. "T 1, R 1: resend, then failed"
+    ∷ example (made 1 1 .state) (begin told.Request ∷ tick ∷ tick ∷ []) ((0 ∷ 0 ∷ 0 ∷ 1 ∷ []) ∷ first 0 (codeOf Resent) ∷ first 0 (codeOf Failed) ∷ []) both-free
+    -- 8. "Next serial 65,535 gives 65,535, then 0"
+    ∷ example (table [] 65535 1 0) (begin told.Send ∷ begin told.Request ∷ []) ((0 ∷ 0 ∷ 65535 ∷ 0 ∷ []) ∷ (0 ∷ 1 ∷ 0 ∷ 1 ∷ []) ∷ []) (opened 65535 Send ∷ opened 0 Request ∷ [])
+    -- the next serial may itself be open: with 65,535 and 0 open, 1 is given and 2 is next
+    ∷ example (table (opened 65535 Send ∷ free ∷ opened 0 Request ∷ []) 65535 1 0) (begin told.Send ∷ []) ((0 ∷ 1 ∷ 1 ∷ 2 ∷ []) ∷ []) (opened 65535 Send ∷ opened 1 Send ∷ [])
+    -- a tick ages open places only, and after a resend the age is 0
+    ∷ example (made 2 1 .state) (begin told.Send ∷ tick ∷ tick ∷ []) ((0 ∷ 0 ∷ 0 ∷ 1 ∷ []) ∷ first 0 0 ∷ first 0 (codeOf Resent) ∷ []) (counted 1 0 (opened 0 Send) ∷ free ∷ [])
+    ∷ example (made 2 1 .state) (begin told.Send ∷ tick ∷ tick ∷ tick ∷ tick ∷ []) ((0 ∷ 0 ∷ 0 ∷ 1 ∷ []) ∷ first 0 0 ∷ first 0 (codeOf Resent) ∷ first 0 0 ∷ first 0 (codeOf Failed) ∷ []) both-free
+    -- a failed place is zeroed, and its serial is told
+    ∷ example (table (opened 7 Send ∷ []) 9 1 0) (tick ∷ tick ∷ []) (first 7 (codeOf Failed) ∷ first 0 0 ∷ []) both-free
+    -- a send: an answer and a bad answer are stray, a denial fails it, and then it is no more
+    ∷ example (table (opened 7 Send ∷ []) 0 1 0) (reply 7 Answer ∷ reply 7 BadAnswer ∷ reply 6 Confirm ∷ reply 7 Deny ∷ reply 7 Confirm ∷ []) (no-reply STRAY ∷ no-reply STRAY ∷ no-reply STRAY ∷ (0 ∷ 0 ∷ codeOf Failed ∷ []) ∷ no-reply STRAY ∷ []) both-free
+    -- a confirm frees it
+    ∷ example (table (opened 7 Send ∷ opened 8 Send ∷ []) 0 1 0) (reply 8 Confirm ∷ []) ((0 ∷ 1 ∷ codeOf Confirmed ∷ []) ∷ []) (opened 7 Send ∷ free ∷ [])
+    -- a request: a confirm is stray, a bad answer resends it, and an answer ends it
+    ∷ example (table (free ∷ opened 7 Request ∷ []) 0 1 1) (reply 7 Confirm ∷ reply 7 BadAnswer ∷ []) (no-reply STRAY ∷ (0 ∷ 1 ∷ codeOf Resent ∷ []) ∷ []) (free ∷ counted 1 0 (opened 7 Request) ∷ [])
+    ∷ example (table (free ∷ opened 7 Request ∷ []) 0 1 1) (reply 7 Answer ∷ []) ((0 ∷ 1 ∷ codeOf Answered ∷ []) ∷ []) both-free
+    -- sixteen are open
+    ∷ example (table (map (λ (s : ℕ). opened s Send) (0 ∷ 1 ∷ 2 ∷ 3 ∷ 4 ∷ 5 ∷ 6 ∷ 7 ∷ 8 ∷ 9 ∷ 10 ∷ 11 ∷ 12 ∷ 13 ∷ 14 ∷ 15 ∷ [])) 3 1 0) (begin told.Send ∷ []) (no-begin FULL 3 ∷ []) (opened 0 Send ∷ opened 1 Send ∷ [])
+    -- STATE: a free place with serial 7; age T; resends R + 1; one serial open as a send and as a request; T 0 or 11; R 10
+    ∷ broken (table (opened 7 Free ∷ []) 0 1 0)
+    ∷ broken (table (counted 0 2 (opened 7 Send) ∷ []) 0 2 0)
+    ∷ broken (table (counted 1 0 (opened 7 Send) ∷ []) 0 2 0)
+    ∷ broken (table (opened 7 Send ∷ opened 7 Request ∷ []) 0 2 0)
+    ∷ broken (table [] 0 0 0)
+    ∷ broken (table [] 0 11 0)
+    ∷ broken (table [] 0 1 10)
+    -- "SETTING, with a table of zeros": every later call on it is STATE
+    ∷ broken (made 0 0 .state)
+    ∷ broken (made 11 9 .state)
+    ∷ broken (made 10 10 .state)
+    ∷ []
+
+-- what the calls answer and leave, and what the example says
+abbrev pub comes-out : Example → List (List ℕ) × List Place
+comes-out e = (answers (e .start) (e .calls), take 2 (run (e .start) (e .calls) .places))
+
+abbrev pub expected : Example → List (List ℕ) × List Place
+expected e = (e .told, e .left)
+
+pub answered-so : map comes-out examples ≡ map expected examples
+unfolding made found begun answered ticking legal lowestFree isOpenAs twice allKeep serialFor fitting swept after run isZero holds keeps denied ticked fits replied inOrder firstFit anyFits
+answered-so = refl
+
+-- making a table: T 0 or 11, R 10; the ends of the ranges; a refused one is of zeros
+pub made-so : map (λ (e : ℕ × ℕ). made (e .0) (e .1) .verdict .number) ((0, 0) ∷ (11, 0) ∷ (1, 10) ∷ (1, 0) ∷ (10, 9) ∷ []) ≡ SETTING ∷ SETTING ∷ SETTING ∷ 0 ∷ 0 ∷ []
+unfolding made inOrder
+made-so = refl
+
+pub made-zeros : map (λ (e : ℕ × ℕ). made (e .0) (e .1) .state) ((0, 0) ∷ (11, 0) ∷ (1, 10) ∷ (10, 9) ∷ []) ≡ blank 0 0 ∷ blank 0 0 ∷ blank 0 0 ∷ blank 10 9 ∷ []
+unfolding made inOrder
+made-zeros = refl

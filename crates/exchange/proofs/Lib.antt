@@ -1,0 +1,4 @@
+pub mod Answers
+pub mod Kept
+pub mod Changes
+pub mod Examples

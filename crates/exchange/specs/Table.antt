@@ -1,0 +1,113 @@
+-- The exchange table and its calls (document 01, "Open exchanges"; 001, 6.5).
+-- Assumes nothing.
+use Prim.Native.Nat.{ℕ}
+use mathlib.Core.Bool.{Bool, not, _&&_, cond}
+use mathlib.Core.List.{List, [], _∷_}
+use lib.Dec.{leb, ltb}
+use lib.ListN.{set, replicate}
+use Rattle.verdict.specs.Refusals.{STATE, SETTING, FULL, STRAY}
+use Rattle.verdict.specs.Orders.{Test, good, isGood, inOrder, _or-else_}
+use Rattle.place.specs.declared.Place.{Place}
+use Rattle.place.specs.declared.Mode.{Mode}
+use Rattle.place.specs.declared.Mode.the-variants.{Send, Request}
+use Rattle.place.specs.declared.Reply.{Reply}
+use Rattle.place.specs.declared.Outcome.the-variants.{Nothing}
+use Rattle.place.specs.Rules.{free, opened}
+use Rattle.place.specs.Steps.{replied}
+use Rattle.exchange.specs.declared.Exchanges.{Exchanges}
+use Rattle.exchange.specs.declared.Told.{Told}
+use Rattle.exchange.specs.declared.Told.the-variants as told
+use Rattle.exchange.specs.declared.Made.{Made}
+use Rattle.exchange.specs.declared.Found.{Found}
+use Rattle.exchange.specs.declared.Begun.{Begun}
+use Rattle.exchange.specs.declared.Replied.{Replied}
+use Rattle.exchange.specs.declared.Ticked.{Ticked}
+use Rattle.places.specs.Rows.{placeAt, lowestFree, twice, allKeep, upward, serialFor, fitting, nothing, swept}
+
+-- "Timeout T is 1 to 10 ticks, resends R 0 to 9."
+abbrev pub inRange : ℕ → ℕ → Bool
+inRange t r = leb 1 t && leb t 10 && leb r 9
+
+-- "STATE: T or R out of range, an open place with age T or more or resends above R, two open with one serial, a free place not zero":
+-- a state that is none of these
+unfoldable pub legal : Exchanges → Bool
+legal x =
+    inRange (x .timeout) (x .resends)
+    && allKeep (x .timeout) (x .resends) (x .places) 0 16
+    && not (twice (x .places) 0 16)
+
+-- "A fresh table starts at serial 0"
+abbrev pub blank : ℕ → ℕ → Exchanges
+blank t r = record { places = replicate 16 free; next = 0; timeout = t; resends = r }
+
+-- "making a table: SETTING, with a table of zeros"
+unfoldable pub made : ℕ → ℕ → Made
+made t r =
+    let v = inOrder ((inRange t r or-else SETTING) ∷ []) good in
+    record { verdict = v; state = cond (isGood v) (blank t r) (blank 0 0) }
+
+-- "Exchange calls: STATE, then FULL or STRAY": FULL where all sixteen are open
+abbrev pub beginTests : Exchanges → List Test
+beginTests x = (legal x or-else STATE) ∷ (ltb (lowestFree (x .places) 0 16) 16 or-else FULL) ∷ []
+
+-- "takes the lowest free place and the first serial, from the next one upward .., that is not open"
+unfoldable pub found : Exchanges → Found
+found x =
+    let v = inOrder (beginTests x) good in
+    record {
+      verdict = v;
+      place = cond (isGood v) (lowestFree (x .places) 0 16) 0;
+      serial = cond (isGood v) (serialFor (x .places) 0 16 (x .next)) 0;
+    }
+
+-- the table with other places
+abbrev pub placed : Exchanges → List Place → Exchanges
+placed x ps = record { places = ps; next = x .next; timeout = x .timeout; resends = x .resends }
+
+-- the table with an exchange entered at a place: "the one after it is then next"
+abbrev pub entered : Exchanges → ℕ → ℕ → Mode → Exchanges
+entered x k s m =
+    record { places = set (x .places) k (opened s m); next = upward s 1; timeout = x .timeout; resends = x .resends }
+
+-- "Begin, told send or request"
+abbrev pub modeOf : Told → Mode
+modeOf told.Send = Send
+modeOf told.Request = Request
+
+unfoldable pub begun : Exchanges → Told → Begun
+begun x m =
+    let f = found x in
+    record {
+      verdict = f .verdict;
+      place = f .place;
+      serial = f .serial;
+      state = cond (isGood (f .verdict)) (entered x (f .place) (f .serial) (modeOf m)) x;
+    }
+
+-- STRAY where the reply fits no open exchange
+abbrev pub replyTests : Exchanges → ℕ → Reply → List Test
+replyTests x s w = (legal x or-else STATE) ∷ (ltb (fitting (x .places) 0 16 s w) 16 or-else STRAY) ∷ []
+
+-- "A reply is given as its serial and one of confirm, answer, deny, bad answer": the place that it fits takes its step
+unfoldable pub answered : Exchanges → ℕ → Reply → Replied
+answered x s w =
+    let v = inOrder (replyTests x s w) good in
+    let k = fitting (x .places) 0 16 s w in
+    let step = replied (x .resends) w (placeAt (x .places) k) in
+    record {
+      verdict = v;
+      place = cond (isGood v) k 0;
+      outcome = cond (isGood v) (step .outcome) Nothing;
+      state = cond (isGood v) (placed x (set (x .places) k (step .place))) x;
+    }
+
+-- "The tick answers all sixteen places."
+unfoldable pub ticking : Exchanges → Ticked
+ticking x =
+    let v = inOrder ((legal x or-else STATE) ∷ []) good in
+    let all = swept (x .timeout) (x .resends) (x .places) in
+    record {
+      verdict = v;
+      reports = cond (isGood v) (all .reports) (replicate 16 nothing);
+      state = cond (isGood v) (placed x (all .places)) x;
+    }

@@ -1,0 +1,123 @@
+-- What a step keeps: a place that kept the rules keeps them, and one that is open after it was open before under the same serial.
+-- By the tests of each rule. Assumes nothing.
+use Prim.Native.Nat.{ℕ, _+_, _≤_, _<_}
+use native.Mathlib.Omega.{arith}
+use mathlib.Core.Bool.{Bool, true, false, cond, and-eq-true-iff, false≢true}
+use mathlib.Core.Path.{_≡_, refl, sym, _∙_}
+use borrow.Author.Tests.{ltb-true, leb-true, eqb-true, lt-ltb, le-leb, eq-eqb}
+use lib.Dec.{ltb, leb, eqb}
+use Rattle.place.specs.declared.Mode.{Mode}
+use Rattle.place.specs.declared.Mode.the-variants.{Free, Send, Request}
+use Rattle.place.specs.declared.Place.{Place}
+use Rattle.place.specs.declared.Reply.{Reply}
+use Rattle.place.specs.declared.Reply.the-variants.{Confirm, Answer, Deny, BadAnswer}
+use Rattle.place.specs.declared.Outcome.the-variants.{Nothing, Resent, Failed}
+use Rattle.place.specs.Rules.{free, isOpen, isZero, holds, keeps}
+use Rattle.place.specs.Steps.{counted, becomes, denied, ticked, awaits, fits, replied}
+
+-- a place that holds a serial is open, and the serial is its own
+pub holds-is : (s : ℕ) (p : Place) → holds s p ≡ true → (isOpen (p .mode) ≡ true) × (p .serial ≡ s)
+unfolding holds
+holds-is s p h =
+    let a = and-eq-true-iff (isOpen (p .mode)) (eqb (p .serial) s) .0 h in
+    (a .0, eqb-true (p .serial) s (a .1))
+
+pub open-holds : (p : Place) → isOpen (p .mode) ≡ true → holds (p .serial) p ≡ true
+unfolding holds
+open-holds p o = simp (o, eq-eqb (p .serial) (p .serial) refl)
+
+-- a reply fits open places only, and only under its serial
+pub awaits-open : (m : Mode) (w : Reply) → awaits m w ≡ true → isOpen m ≡ true
+awaits-open Free w h = h
+awaits-open Send w h = refl
+awaits-open Request w h = refl
+
+pub fits-holds : (s : ℕ) (w : Reply) (p : Place) → fits s w p ≡ true → holds s p ≡ true
+unfolding fits holds
+fits-holds s w p h =
+    let a = and-eq-true-iff (awaits (p .mode) w) (eqb (p .serial) s) .0 h in
+    and-eq-true-iff (isOpen (p .mode)) (eqb (p .serial) s) .1 (awaits-open (p .mode) w (a .0), a .1)
+
+-- a free place is open under no serial
+pub free-holds : (s : ℕ) → holds s free ≡ false
+unfolding holds
+free-holds s = refl
+
+-- counts do not touch the serial
+pub counted-holds : (s n a : ℕ) (p : Place) → holds s (counted n a p) ≡ holds s p
+unfolding holds
+counted-holds s n a p = refl
+
+-- what is open after a step was open before it, under the same serial
+module _ (s r : ℕ) (p : Place) where
+  pub denied-holds : holds s (denied r p .place) ≡ true → holds s p ≡ true
+  unfolding denied
+  denied-holds = by-test (ltb (p .resends) r)
+    where
+      by-test : (b : Bool) → holds s (cond b (becomes (counted (p .resends + 1) 0 p) Resent) (becomes free Failed) .place) ≡ true → holds s p ≡ true
+      by-test true h = sym (counted-holds s (p .resends + 1) 0 p) ∙ h
+      by-test false h = absurd (false≢true (sym (free-holds s) ∙ h))
+
+  pub replied-holds : (w : Reply) → holds s (replied r w p .place) ≡ true → holds s p ≡ true
+  unfolding replied
+  replied-holds Confirm h = absurd (false≢true (sym (free-holds s) ∙ h))
+  replied-holds Answer h = absurd (false≢true (sym (free-holds s) ∙ h))
+  replied-holds Deny h = denied-holds h
+  replied-holds BadAnswer h = denied-holds h
+
+  pub ticked-holds : (t : ℕ) → holds s (ticked t r p .place) ≡ true → holds s p ≡ true
+  unfolding ticked
+  ticked-holds t = by-test (isOpen (p .mode)) (ltb (p .age + 1) t)
+    where
+      by-test : (o b : Bool)
+          → holds s (cond o (cond b (becomes (counted (p .resends) (p .age + 1) p) Nothing) (denied r p)) (becomes p Nothing) .place) ≡ true
+          → holds s p ≡ true
+      by-test true true h = sym (counted-holds s (p .resends) (p .age + 1) p) ∙ h
+      by-test true false h = denied-holds h
+      by-test false b h = h
+
+-- the rules of an open place, and that zeros keep them
+pub open-keeps : (t r : ℕ) (p : Place) → isOpen (p .mode) ≡ true → p .age < t → p .resends ≤ r → keeps t r p ≡ true
+unfolding keeps
+open-keeps t r p o a h = simp (o, lt-ltb (p .age) t a, le-leb (p .resends) r h)
+
+pub free-keeps : (t r : ℕ) → keeps t r free ≡ true
+unfolding keeps isZero
+free-keeps t r = refl
+
+pub open-kept : (t r : ℕ) (p : Place) → isOpen (p .mode) ≡ true → keeps t r p ≡ true → (p .age < t) × (p .resends ≤ r)
+unfolding keeps
+open-kept t r p o k =
+    let h = and-eq-true-iff (ltb (p .age) t) (leb (p .resends) r) .0 (simp o at k) in
+    (ltb-true (p .age) t (h .0), leb-true (p .resends) r (h .1))
+
+-- a step keeps the rules
+module _ (t r : ℕ) (p : Place) (some : 1 ≤ t) where
+  pub denied-keeps : isOpen (p .mode) ≡ true → keeps t r (denied r p .place) ≡ true
+  unfolding denied
+  denied-keeps o = by-test (ltb (p .resends) r) refl
+    where
+      by-test : (b : Bool) → ltb (p .resends) r ≡ b
+          → keeps t r (cond b (becomes (counted (p .resends + 1) 0 p) Resent) (becomes free Failed) .place) ≡ true
+      by-test true e =
+          let h = ltb-true (p .resends) r e in
+          open-keeps t r (counted (p .resends + 1) 0 p) o (omega arith) (omega arith)
+      by-test false e = free-keeps t r
+
+  pub replied-keeps : (w : Reply) → isOpen (p .mode) ≡ true → keeps t r (replied r w p .place) ≡ true
+  unfolding replied
+  replied-keeps Confirm o = free-keeps t r
+  replied-keeps Answer o = free-keeps t r
+  replied-keeps Deny o = denied-keeps o
+  replied-keeps BadAnswer o = denied-keeps o
+
+  pub ticked-keeps : keeps t r p ≡ true → keeps t r (ticked t r p .place) ≡ true
+  unfolding ticked
+  ticked-keeps k = by-test (isOpen (p .mode)) refl (ltb (p .age + 1) t) refl
+    where
+      by-test : (o : Bool) → isOpen (p .mode) ≡ o → (b : Bool) → ltb (p .age + 1) t ≡ b
+          → keeps t r (cond o (cond b (becomes (counted (p .resends) (p .age + 1) p) Nothing) (denied r p)) (becomes p Nothing) .place) ≡ true
+      by-test true o true e =
+          open-keeps t r (counted (p .resends) (p .age + 1) p) o (ltb-true (p .age + 1) t e) (open-kept t r p o k .1)
+      by-test true o false e = denied-keeps o
+      by-test false o b e = k

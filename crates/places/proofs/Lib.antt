@@ -1,0 +1,4 @@
+pub mod Fill
+pub mod Counting
+pub mod Serials
+pub mod Rules

@@ -1,0 +1,127 @@
+-- The rules of a row of places as facts about each place, and what keeps them: fewer serials open, and one that was not open opened.
+-- Assumes nothing.
+use Prim.Native.Nat.{ℕ, zero, suc, _+_, _-_, _≤_, _<_}
+use native.Mathlib.Omega.{arith}
+use mathlib.Core.Bool.{Bool, true, false, not, _&&_, _||_, true≢false}
+use mathlib.Core.List.{List}
+use mathlib.Core.Logic.{_⊎_, inl, inr}
+use mathlib.Core.Path.{_≡_, refl, sym, ap, subst, subst⁻¹, _∙_}
+use borrow.Author.Tests.{not-true, not-false, eqb-true, eqb-false}
+use lib.Dec.{eqb}
+use lib.ListN.{length, set}
+use lib.Seq.{getD-set-same, getD-set-other}
+use Rattle.octets.specs.Searches.{anyFits}
+use Rattle.octets.proofs.Searches.{any-none}
+use Rattle.place.specs.declared.Mode.{Mode}
+use Rattle.place.specs.declared.Place.{Place}
+use Rattle.place.specs.Rules.{opened, free, isOpen, holds}
+use Rattle.place.proofs.Kept.{holds-is, open-holds}
+use Rattle.places.specs.Rows.{placeAt, holdsAt, keepsAt, isOpenAs, doubleAt, twice, allKeep}
+
+-- where each place of a run refuses, none fits
+none-fits : (f : ℕ → Bool) (i n : ℕ) → ((k : ℕ) → i ≤ k → k < i + n → f k ≡ false) → anyFits f i n ≡ false
+unfolding anyFits
+none-fits f i zero h = refl
+none-fits f i (suc n) h = by-test (f i) (h i (omega arith) (omega arith)) (none-fits f (suc i) n (λ k l u. h k (omega arith) (omega arith)))
+  where
+    by-test : (t : Bool) → t ≡ false → anyFits f (suc i) n ≡ false → t || anyFits f (suc i) n ≡ false
+    by-test true e ih = absurd (true≢false e)
+    by-test false e ih = ih
+
+-- every place keeps the rules for a place
+module _ (t r : ℕ) (ps : List Place) (from to : ℕ) where
+  abbrev pub Keeping : Type 0
+  Keeping = (k : ℕ) → from ≤ k → k < to → keepsAt t r ps k ≡ true
+
+  pub keep-each : allKeep t r ps from to ≡ true → Keeping
+  unfolding allKeep
+  keep-each a k l h =
+      not-false (keepsAt t r ps k)
+      (any-none (λ (j : ℕ). not (keepsAt t r ps j)) from (to - from) k (not-true (anyFits (λ (j : ℕ). not (keepsAt t r ps j)) from (to - from)) a) l (omega arith))
+
+  pub each-keep : Keeping → allKeep t r ps from to ≡ true
+  unfolding allKeep
+  each-keep h =
+      ap not (none-fits (λ (j : ℕ). not (keepsAt t r ps j)) from (to - from) (λ k l u. ap not (h k l (omega arith))))
+
+-- no two places are open under one serial
+module _ (ps : List Place) (from to : ℕ) where
+  abbrev pub Apart : Type 0
+  Apart = (s j k : ℕ) → from ≤ j → j < k → k < to → holdsAt ps s j ≡ true → holdsAt ps s k ≡ false
+
+  pub unheld : (s : ℕ) → isOpenAs ps from to s ≡ false → (k : ℕ) → from ≤ k → k < to → holdsAt ps s k ≡ false
+  unfolding isOpenAs
+  unheld s e k l h = any-none (holdsAt ps s) from (to - from) k e l (omega arith)
+
+pub once-apart : (ps : List Place) (from to : ℕ) → twice ps from to ≡ false → Apart ps from to
+unfolding twice
+once-apart ps from to e s j k l u v h =
+    let o = holds-is s (placeAt ps j) h in
+    let d : doubleAt ps to j ≡ false = any-none (doubleAt ps to) from (to - from) j e l (omega arith) in
+    let n : isOpenAs ps (j + 1) to (placeAt ps j .serial) ≡ false = simp (o .0) at d in
+    subst (λ (x : ℕ). holdsAt ps x k ≡ false) (o .1) (unheld ps (j + 1) to (placeAt ps j .serial) n k (omega arith) v)
+
+pub apart-once : (ps : List Place) (from to : ℕ) → Apart ps from to → twice ps from to ≡ false
+unfolding twice isOpenAs
+apart-once ps from to a =
+    none-fits (doubleAt ps to) from (to - from)
+    (λ j l u. by-test j l (omega arith) (isOpen (placeAt ps j .mode)) refl)
+  where
+    by-test : (j : ℕ) → from ≤ j → j < to → (o : Bool) → isOpen (placeAt ps j .mode) ≡ o
+        → o && anyFits (holdsAt ps (placeAt ps j .serial)) (j + 1) (to - (j + 1)) ≡ false
+    by-test j l u false e = refl
+    by-test j l u true e =
+        none-fits (holdsAt ps (placeAt ps j .serial)) (j + 1) (to - (j + 1))
+        (λ k m v. a (placeAt ps j .serial) j k l (omega arith) (omega arith) (open-holds (placeAt ps j) e))
+
+-- what is open under a serial after was so before: no two open under one serial
+pub apart-fewer : (ps qs : List Place) (from to : ℕ) → ((s k : ℕ) → from ≤ k → k < to → holdsAt qs s k ≡ true → holdsAt ps s k ≡ true)
+    → Apart ps from to → Apart qs from to
+apart-fewer ps qs from to fewer a s j k l u v h = by-test (holdsAt qs s k) refl
+  where
+    by-test : (b : Bool) → holdsAt qs s k ≡ b → b ≡ false
+    by-test false q = refl
+    by-test true q = absurd (true≢false (sym (fewer s k (omega arith) v q) ∙ a s j k l u v (fewer s j l (omega arith) h)))
+
+-- one place changed: itself, and the others
+module _ (ps : List Place) (at : ℕ) (p : Place) where
+  pub changed : at < length ps → placeAt (set ps at p) at ≡ p
+  changed h = getD-set-same ps at p free h
+
+  pub unchanged : (k : ℕ) → (k ≡ at → ⊥) → placeAt (set ps at p) k ≡ placeAt ps k
+  unchanged k h = getD-set-other ps at k p free h
+
+  -- what holds of the changed place and of the others holds of every place
+  pub each-place : (P : ℕ → Place → Type 0) → at < length ps → P at p → ((k : ℕ) → P k (placeAt ps k)) → (k : ℕ) → P k (placeAt (set ps at p) k)
+  each-place P h new old k = by-test (eqb k at) refl
+    where
+      by-test : (b : Bool) → eqb k at ≡ b → P k (placeAt (set ps at p) k)
+      by-test true e =
+          let same = eqb-true k at e in
+          subst⁻¹ (λ (i : ℕ). P i (placeAt (set ps at p) i)) same (subst⁻¹ (P at) (changed h) new)
+      by-test false e = subst⁻¹ (P k) (unchanged k (eqb-false k at e)) (old k)
+
+-- a serial that was not open, opened
+module _ (ps : List Place) (from to at s : ℕ) (m : Mode) where
+  opened-holds : at < length ps → (x k : ℕ) → holdsAt (set ps at (opened s m)) x k ≡ true → ((k ≡ at) × (s ≡ x)) ⊎ (holdsAt ps x k ≡ true)
+  opened-holds h x =
+      each-place ps at (opened s m) (λ (k : ℕ) (p : Place). holds x p ≡ true → ((k ≡ at) × (s ≡ x)) ⊎ (holdsAt ps x k ≡ true)) h
+      (λ e. inl (refl, holds-is x (opened s m) e .1))
+      (λ k e. inr e)
+
+  pub apart-opened : at < length ps → isOpenAs ps from to s ≡ false → Apart ps from to → Apart (set ps at (opened s m)) from to
+  apart-opened h none a x j k l u v e = by-test (holdsAt (set ps at (opened s m)) x k) refl
+    where
+      not-held : (i : ℕ) → from ≤ i → i < to → s ≡ x → holdsAt ps x i ≡ true → ⊥
+      not-held i l u q y =
+          true≢false (sym y ∙ subst (λ (z : ℕ). holdsAt ps z i ≡ false) q (unheld ps from to s none i l u))
+
+      clash : ((j ≡ at) × (s ≡ x)) ⊎ (holdsAt ps x j ≡ true) → ((k ≡ at) × (s ≡ x)) ⊎ (holdsAt ps x k ≡ true) → ⊥
+      clash (inl y) (inl z) = omega (arith, y .0, z .0)
+      clash (inl y) (inr z) = not-held k (omega arith) v (y .1) z
+      clash (inr y) (inl z) = not-held j l (omega arith) (z .1) y
+      clash (inr y) (inr z) = true≢false (sym z ∙ a x j k l u v y)
+
+      by-test : (b : Bool) → holdsAt (set ps at (opened s m)) x k ≡ b → b ≡ false
+      by-test false q = refl
+      by-test true q = absurd (clash (opened-holds h x j e) (opened-holds h x k q))

@@ -1,0 +1,72 @@
+-- `places::tick_all` meets its contract. The loop's invariant: the places before i have taken their step and are reported. Assumes nothing.
+use Prim.Native.Nat.{_-_, _≤_, _<_}
+use native.Mathlib.Omega.{arith}
+use borrow.Author.Needs.{needs}
+use mathlib.Core.Path.{_≡_, refl, sym, ap, _∙_}
+use mathlib.Core.List.{List}
+use lib.ListN.{length, getD, set, replicate}
+use Rattle.place.specs.declared.Place.{Place}
+use Rattle.place.specs.declared.Step.{Step}
+use Rattle.place.specs.Rules.{free}
+use Rattle.places.specs.declared.Report.{Report}
+use Rattle.places.specs.Rows.{aged, report, nothing, swept}
+use Rattle.places.proofs.Fill.{filled, fill-more, fill-end}
+use Rattle.places.proofs.tick_all.Statement.{statement}
+use Rattle.places.proofs.tick_all.Tie as tie
+
+abbrev Inv-loop : tie.InvT-loop
+Inv-loop timeout resends places now₀ reports₀ i₀ now reports i = (i ≤ 16) × (now ≡ filled (aged timeout resends) now₀ places i) × (reports ≡ filled (report timeout resends) reports₀ places i)
+
+abbrev μ-loop : tie.MeasureT-loop
+μ-loop timeout resends places now₀ reports₀ i₀ now reports i = 16 - i
+
+loop-holds : tie.Need-loop-holds Inv-loop μ-loop
+unfolding filled
+loop-holds c = (omega arith, refl, refl)
+
+loop-again : tie.Need-loop-again Inv-loop μ-loop
+loop-again c =
+    let a = c .before .before .before .before .before .args in
+    let ps = a .t1 in
+    let i = c .before .before .before .before .loop .i in
+    let now = replicate 16 nothing in
+    let p = getD ps i free in
+    let long : length ps ≡ 16 = search needs in
+    let below : i < length ps = omega arith in (
+      omega arith,
+      ap (λ (l : List Place). set l i (c .before .ticked .result .place)) (c .before .before .before .before .loop .inv .1)
+          ∙ ap (λ (s : Step). set (filled (aged (a .timeout) (a .resends)) ps ps i) i (s .place)) (c .before .ticked .ensures)
+          ∙ fill-more (aged (a .timeout) (a .resends)) ps ps i free refl below,
+      ap (λ (l : List Report). set l i (record { outcome = c .before .ticked .result .outcome; serial = p .serial })) (c .before .before .before .before .loop .inv .2)
+          ∙ ap (λ (s : Step). set (filled (report (a .timeout) (a .resends)) now ps i) i (record { outcome = s .outcome; serial = p .serial })) (c .before .ticked .ensures)
+          ∙ fill-more (report (a .timeout) (a .resends)) now ps i free (sym long) below,
+    )
+
+returns : tie.Need-returns Inv-loop μ-loop
+unfolding swept
+returns c =
+    let a = c .before .before .args in
+    let long : length (a .t1) ≡ 16 = search needs in
+    let end : c .before .loop .i ≡ length (a .t1) = omega arith in
+    let now = c .before .loop .inv .1 ∙ fill-end (aged (a .timeout) (a .resends)) (a .t1) (a .t1) (c .before .loop .i) refl end in
+    let reports = c .before .loop .inv .2 ∙ fill-end (report (a .timeout) (a .resends)) (replicate 16 nothing) (a .t1) (c .before .loop .i) (sym long) end in
+    λ i. record { places = now i; reports = reports i }
+
+pub tick-all-spec : {M : Type 1} → statement M
+tick-all-spec =
+    tie.close
+    (tie.spec
+    Inv-loop
+    μ-loop
+    loop-holds
+    (λ c. omega arith)
+    (λ c. omega arith)
+    (λ c κs. tt)
+    (λ c. omega arith)
+    (λ c. omega arith)
+    (λ c. omega arith)
+    (λ c. omega arith)
+    (λ c. omega arith)
+    (λ c. omega arith)
+    loop-again
+    returns)

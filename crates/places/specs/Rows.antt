@@ -1,0 +1,82 @@
+-- The searches over a row of places of any length, from one number up to another (document 01, "Open exchanges"; 001, 6.5).
+-- Assumes nothing.
+use Prim.Native.Nat.{ℕ, _+_, _-_, _%_}
+use mathlib.Core.Bool.{Bool, not, _&&_}
+use mathlib.Core.List.{List, map}
+use lib.ListN.{getD}
+use Rattle.octets.specs.Searches.{firstFit, anyFits, allFit}
+use Rattle.place.specs.declared.Place.{Place}
+use Rattle.place.specs.declared.Reply.{Reply}
+use Rattle.place.specs.declared.Outcome.the-variants.{Nothing}
+use Rattle.place.specs.Rules.{free, isOpen, holds, keeps}
+use Rattle.place.specs.Steps.{ticked, fits}
+use Rattle.places.specs.declared.Report.{Report}
+use Rattle.places.specs.declared.Swept.{Swept}
+
+-- the place at a number
+abbrev pub placeAt : List Place → ℕ → Place
+placeAt ps k = getD ps k free
+
+-- what is asked of the place at a number
+abbrev pub freeAt : List Place → ℕ → Bool
+freeAt ps k = not (isOpen (placeAt ps k .mode))
+
+abbrev pub holdsAt : List Place → ℕ → ℕ → Bool
+holdsAt ps s k = holds s (placeAt ps k)
+
+abbrev pub keepsAt : ℕ → ℕ → List Place → ℕ → Bool
+keepsAt t r ps k = keeps t r (placeAt ps k)
+
+abbrev pub fitsAt : List Place → ℕ → Reply → ℕ → Bool
+fitsAt ps s w k = fits s w (placeAt ps k)
+
+-- "the lowest free place"; the end of the row where none is free
+unfoldable pub lowestFree : List Place → ℕ → ℕ → ℕ
+lowestFree ps from to = firstFit (freeAt ps) from (to - from)
+
+-- whether a serial is open
+unfoldable pub isOpenAs : List Place → ℕ → ℕ → ℕ → Bool
+isOpenAs ps from to s = anyFits (holdsAt ps s) from (to - from)
+
+-- open under a serial that is open again further on
+abbrev pub doubleAt : List Place → ℕ → ℕ → Bool
+doubleAt ps to k = isOpen (placeAt ps k .mode) && isOpenAs ps (k + 1) to (placeAt ps k .serial)
+
+-- "two open with one serial"
+unfoldable pub twice : List Place → ℕ → ℕ → Bool
+twice ps from to = anyFits (doubleAt ps to) from (to - from)
+
+-- no place breaks the rules for a place
+unfoldable pub allKeep : ℕ → ℕ → List Place → ℕ → ℕ → Bool
+allKeep t r ps from to = allFit (keepsAt t r ps) from (to - from)
+
+-- "from the next one upward and past 65,535 to 0": the serial so many after another
+abbrev pub upward : ℕ → ℕ → ℕ
+upward s j = (s + j) % 65536
+
+abbrev pub unopened : List Place → ℕ → ℕ → ℕ → ℕ → Bool
+unopened ps from to next j = not (isOpenAs ps from to (upward next j))
+
+-- "the first serial .. that is not open": no more serials are open than there are places, so this many are tried at most
+unfoldable pub serialFor : List Place → ℕ → ℕ → ℕ → ℕ
+serialFor ps from to next = upward next (firstFit (unopened ps from to next) 0 (to - from))
+
+-- the place that a reply fits; the end of the row where it fits none
+unfoldable pub fitting : List Place → ℕ → ℕ → ℕ → Reply → ℕ
+fitting ps from to s w = firstFit (fitsAt ps s w) from (to - from)
+
+-- what a tick makes of a place
+abbrev pub aged : ℕ → ℕ → Place → Place
+aged t r p = ticked t r p .place
+
+-- and what it tells of it: the outcome, with the serial
+abbrev pub report : ℕ → ℕ → Place → Report
+report t r p = record { outcome = ticked t r p .outcome; serial = p .serial }
+
+-- a place of which nothing is told
+abbrev pub nothing : Report
+nothing = record { outcome = Nothing; serial = 0 }
+
+-- "The tick answers all sixteen places."
+unfoldable pub swept : ℕ → ℕ → List Place → Swept
+swept t r ps = record { places = map (aged t r) ps; reports = map (report t r) ps }

@@ -1,0 +1,175 @@
+// The searches over the places from one number up to another, and the tick of all of them.
+ghost use mathlib.Core.Path.{_≡_};
+ghost use mathlib.Core.Bool.{_&&_};
+ghost use Rattle.place.specs.Rules.{isOpen};
+ghost use Rattle.places.specs.Rows.{placeAt, lowestFree, isOpenAs, twice, allKeep, upward, serialFor, fitting, swept};
+use place::Outcome;
+use place::Place;
+use place::Reply;
+
+// What a tick tells of one place.
+pub struct Report {
+    pub outcome: Outcome,
+    pub serial: u16,
+}
+
+// What a tick makes of all places, and tells of them.
+pub struct Swept {
+    pub places: [Place; 16],
+    pub reports: [Report; 16],
+}
+
+// The place at a number, a free one behind the end.
+pub fn place_at(places: [Place; 16], at: usize) -> Place
+    ensures { λ r. ⌜ r ≡ placeAt places at ⌝ }
+{
+    if at < 16 {
+        return places[at];
+    }
+    Place::free()
+}
+
+// The lowest free place, `to` where none is free.
+pub fn lowest_free(places: [Place; 16], from: usize, to: usize) -> usize
+    ensures { λ r. ⌜ r ≡ lowestFree places from to ⌝ }
+{
+    let mut i = from;
+    while i < to {
+        let p = place_at(places, i);
+        let mode = p.mode;
+        if !mode.is_open() {
+            return i;
+        }
+        i = i + 1;
+    }
+    i
+}
+
+// Whether a serial is open.
+pub fn is_open_as(places: [Place; 16], from: usize, to: usize, serial: u16) -> bool
+    ensures { λ r. ⌜ r ≡ isOpenAs places from to serial ⌝ }
+{
+    let mut i = from;
+    while i < to {
+        let p = place_at(places, i);
+        if p.holds(serial) {
+            return true;
+        }
+        i = i + 1;
+    }
+    false
+}
+
+// Whether two are open with one serial.
+pub fn twice(places: [Place; 16], from: usize, to: usize) -> bool
+    ensures { λ r. ⌜ r ≡ twice places from to ⌝ }
+{
+    let mut i = from;
+    while i < to {
+        let p = place_at(places, i);
+        if is_double(places, i + 1, to, p) {
+            return true;
+        }
+        i = i + 1;
+    }
+    false
+}
+
+// Whether a place is open under a serial that is open again further on.
+fn is_double(places: [Place; 16], from: usize, to: usize, p: Place) -> bool
+    ensures { λ r. ⌜ r ≡ isOpen (p .mode) && isOpenAs places from to (p .serial) ⌝ }
+{
+    let mode = p.mode;
+    if !mode.is_open() {
+        return false;
+    }
+    is_open_as(places, from, to, p.serial)
+}
+
+// Whether every place keeps the rules for a place.
+pub fn all_keep(places: [Place; 16], from: usize, to: usize, timeout: u8, resends: u8) -> bool
+    ensures { λ r. ⌜ r ≡ allKeep timeout resends places from to ⌝ }
+{
+    let mut i = from;
+    while i < to {
+        let p = place_at(places, i);
+        if !p.keeps(timeout, resends) {
+            return false;
+        }
+        i = i + 1;
+    }
+    true
+}
+
+// The serial after another.
+pub fn after(serial: u16) -> u16
+    ensures { λ r. ⌜ r ≡ upward serial 1 ⌝ }
+{
+    if serial == 65535 {
+        return 0;
+    }
+    serial + 1
+}
+
+// The first serial from the next one upward that is not open.
+pub fn serial_for(places: [Place; 16], from: usize, to: usize, next: u16) -> u16
+    ensures { λ r. ⌜ r ≡ serialFor places from to next ⌝ }
+{
+    if to <= from {
+        return next;
+    }
+    let most = to - from;
+    let mut serial = next;
+    let mut tried: usize = 0;
+    while tried < most {
+        if !is_open_as(places, from, to, serial) {
+            return serial;
+        }
+        serial = after(serial);
+        tried = tried + 1;
+    }
+    serial
+}
+
+// The place that a reply fits, `to` where it fits none.
+pub fn fitting(places: [Place; 16], from: usize, to: usize, serial: u16, reply: Reply) -> usize
+    ensures { λ r. ⌜ r ≡ fitting places from to serial reply ⌝ }
+{
+    let mut i = from;
+    while i < to {
+        let p = place_at(places, i);
+        if p.fits(serial, reply) {
+            return i;
+        }
+        i = i + 1;
+    }
+    i
+}
+
+// A tick of every place.
+pub fn tick_all(places: [Place; 16], timeout: u8, resends: u8) -> Swept
+    ensures { λ r. ⌜ r ≡ swept timeout resends places ⌝ }
+{
+    let mut now = places;
+    let mut reports = [Report {
+        outcome: Outcome::Nothing,
+        serial: 0,
+    }; 16];
+    let mut i: usize = 0;
+    while i < 16 {
+        let p = places[i];
+        let step = p.ticked(timeout, resends);
+        let outcome = step.outcome;
+        let became = step.place;
+        now[i] = became;
+        reports[i] = Report {
+            outcome,
+            serial: p.serial,
+        };
+        i = i + 1;
+    }
+    Swept {
+        places: now,
+        reports,
+    }
+}
