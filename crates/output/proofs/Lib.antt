@@ -1,3 +1,6 @@
 pub mod Filling
 pub mod Judging
 pub mod Lending
+pub mod Back
+pub mod Sent
+pub mod Promises
