@@ -102,7 +102,7 @@ pub fn judge(p: &[u8]) -> Verdict
 }
 
 // The header's fields as they stand in a packet.
-fn header_of(p: &[u8]) -> Header
+pub fn header_of(p: &[u8]) -> Header
     ensures { λ r. ⌜ r ≡ headerOf (now (p .entry)) ⌝ }
 {
     Header {
