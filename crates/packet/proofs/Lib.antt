@@ -1,3 +1,4 @@
 pub mod Framing
 pub mod Contents
 pub mod Opening
+pub mod Examples

@@ -1,1 +1,3 @@
 pub mod Answering
+pub mod Promises
+pub mod Examples
