@@ -1,0 +1,57 @@
+-- The laws of where entries stand and of entries that rise. Assumes nothing.
+use Prim.Native.Nat.{ℕ, zero, suc, _+_, _-_, _≤_, _<_}
+use native.Mathlib.Nat.{suc-mul, mul-le-mul-right, eq-or-lt-of-le, le-of-suc-le-suc, not-suc-le-zero}
+use native.Mathlib.Omega.{arith}
+use mathlib.Core.Bool.{true}
+use mathlib.Core.List.{List}
+use mathlib.Core.Logic.{⊎-elim}
+use mathlib.Core.Path.{_≡_, refl, sym, ap, subst, _∙_}
+use lib.ListN.{length, take, drop}
+use Rattle.octets.proofs.Parts.{part-is}
+use Rattle.devices.specs.declared.Section.{Section}
+use Rattle.devices.specs.Keys.{below}
+use Rattle.devices.specs.Sections.{entryAt, firstBytes, keyAt, rises}
+use Rattle.devices.proofs.Keys.{below-trans}
+
+module _ (z : Section) (from : ℕ) where
+  pub entry-next : (k : ℕ) → entryAt z from k + z .entry ≡ entryAt z from (suc k)
+  unfolding entryAt
+  entry-next k = omega (arith, suc-mul k (z .entry))
+
+  pub entry-order : (m n : ℕ) → m ≤ n → entryAt z from m ≤ entryAt z from n
+  unfolding entryAt
+  entry-order m n h = omega (arith, mul-le-mul-right (z .entry) h)
+
+  -- an entry of a section that is there is there
+  pub entry-inside : (k n l : ℕ) → k < n → entryAt z from n ≤ l → entryAt z from k + z .entry ≤ l
+  entry-inside k n l h fits = omega (arith, entry-next k, entry-order (suc k) n h)
+
+-- the first bytes of an entry that is there
+pub bytes-are : (z : Section) (t : List ℕ) (from k l : ℕ) → entryAt z from k + l ≤ length t → firstBytes z t from k l ≡ take l (drop (entryAt z from k) t)
+unfolding firstBytes
+bytes-are z t from k l h =
+    let e : entryAt z from k + l - entryAt z from k ≡ l = omega arith in
+    part-is t (entryAt z from k) (entryAt z from k + l) (omega arith) h ∙ ap (λ (j : ℕ). take j (drop (entryAt z from k) t)) e
+
+module _ (z : Section) (t : List ℕ) (from : ℕ) where
+  pub first-rises : (i : ℕ) → i ≡ 0 → true ≡ rises z t from i
+  unfolding rises
+  first-rises zero e = refl
+  first-rises (suc i) e = absurd (omega arith)
+
+  pub later-rises : (i : ℕ) → (i ≡ 0 → ⊥) → below (keyAt z t from (i - 1)) (keyAt z t from i) ≡ rises z t from i
+  unfolding rises
+  later-rises zero n = absurd (n refl)
+  later-rises (suc i) n =
+      let e : suc i - 1 ≡ i = omega arith in
+      ap (λ (k : ℕ). below (keyAt z t from k) (keyAt z t from (suc i))) e
+
+  -- where each entry rises, of any two the later stands above
+  pub keys-rise : (n : ℕ) → ((k : ℕ) → k < n → rises z t from k ≡ true) → (i j : ℕ) → i < j → j < n → below (keyAt z t from i) (keyAt z t from j) ≡ true
+  unfolding rises
+  keys-rise n up i zero h b = absurd (not-suc-le-zero h)
+  keys-rise n up i (suc j) h b =
+      ⊎-elim
+      (λ (e : i ≡ j). subst (λ (m : ℕ). below (keyAt z t from m) (keyAt z t from (suc j)) ≡ true) (sym e) (up (suc j) b))
+      (λ (l : i < j). below-trans (keyAt z t from i) (keyAt z t from j) (keyAt z t from (suc j)) (keys-rise n up i j l (omega arith)) (up (suc j) b))
+      (eq-or-lt-of-le (le-of-suc-le-suc h))

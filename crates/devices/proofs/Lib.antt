@@ -1,0 +1,14 @@
+pub mod Keys
+pub mod Entries
+pub mod Each
+pub mod Rising
+pub mod Counting
+pub mod Judging
+pub mod Merging
+pub mod Stages
+pub mod Good
+pub mod Finding
+pub mod Beginnings
+pub mod Limits
+pub mod Theorems
+pub mod Examples
