@@ -1,0 +1,5 @@
+pub mod Values
+pub mod Standing
+pub mod Finding
+pub mod Calls
+pub mod Offers

@@ -1,0 +1,104 @@
+-- A call that is not refused: what its steps ask, and that together they give the answer. Assumes nothing.
+use Prim.Native.Nat.{ℕ, _-_, _≤_}
+use native.Mathlib.Omega.{arith}
+use mathlib.Core.List.{List, _++_}
+use mathlib.Core.Logic.{_⊎_, ⊎-elim}
+use mathlib.Core.Bool.{true}
+use mathlib.Core.Path.{_≡_, sym, ap, subst, _∙_}
+use lib.ListN.{length, take, drop, length-append}
+use lib.Seq.{length-take-le}
+use Rattle.reading.specs.declared.Step.{Step}
+use Rattle.reading.specs.declared.Told.{Told}
+use Rattle.reading.specs.Values.{told, packetOf}
+use Rattle.reading.specs.Standing.{room}
+use Rattle.reading.specs.Finding.{first}
+use Rattle.reading.specs.Calls.{Answer, padTo, allZero, sound, restOf, copied, answerBy, called}
+use Rattle.reading.proofs.Worths.{worth, packet-small}
+use Rattle.reading.proofs.Pads.{pad-is}
+use Rattle.reading.proofs.Found.{Asked, Gave, either}
+use Rattle.reading.proofs.Call.{rules-are, call-good, rest-fits}
+use Rattle.receiver.specs.declared.Served.{Served}
+use Rattle.receiver.specs.Receivers.{lent, receivedOf, servedOf}
+
+-- an answer beside a hold, and with it
+pub received : (s : Served) (row : List ℕ) (a : Answer) → s ≡ servedOf a → row ≡ a .state .hold
+    → record { event = s .event; skipped = s .skipped; taken = s .taken; state = record { hold = row; held = s .held; skipped = s .count } } ≡ receivedOf a
+received s row a e h =
+    λ i. record { event = e i .event; skipped = e i .skipped; taken = e i .taken; state = record { hold = h i; held = e i .held; skipped = e i .count } }
+
+module _ (M : ℕ) (hold : List ℕ) (held skipped : ℕ) (piece out : List ℕ) (long : length hold ≡ room M) (s : sound M (lent hold held skipped) ≡ true) (r : room M ≤ length out) (f : Step) (found : f ≡ first M skipped (take (held - 0) hold ++ piece)) where
+  -- held bytes as the code lends them
+  part : held - 0 ≡ held
+  part = omega arith
+
+  rules : (held ≤ room M) × (skipped ≤ 65534) × (allZero (drop held hold) ≡ true)
+  rules = rules-are M (lent hold held skipped) s
+
+  front-long : length (take held hold) ≡ held
+  front-long = length-take-le held hold (omega (arith, rules .0))
+
+  finds : f ≡ first M skipped (take held hold ++ piece)
+  finds = found ∙ ap (λ (n : ℕ). first M skipped (take n hold ++ piece)) part
+
+  which : Asked M skipped (take held hold ++ piece) f ⊎ Gave M skipped (take held hold ++ piece) f
+  which =
+      subst (λ (g : Step). Asked M skipped (take held hold ++ piece) g ⊎ Gave M skipped (take held hold ++ piece) g) (sym finds)
+      (either M skipped (take held hold ++ piece) (omega (arith, rules .1)))
+
+  pub hold-is : hold ≡ padTo (length hold) (take held hold)
+  hold-is = pad-is (room M) held hold long (rules .0) (rules .2) ∙ ap (λ (n : ℕ). padTo n (take held hold)) (sym long)
+
+  -- the packet fits the buffer
+  pub packet-fits : (t : Told) → t ≡ told (f .event) → length (take (t .length) (drop (f .at) (take (held - 0) hold ++ piece))) ≤ length out
+  unfolding packetOf worth
+  packet-fits t e =
+      let xs = drop (f .at) (take (held - 0) hold ++ piece) in
+      let small : worth (f .event) ≤ room M =
+      ⊎-elim
+      (λ (q : Asked M skipped (take held hold ++ piece) f). subst (λ w. worth w ≤ room M) (sym (q .event)) (omega arith))
+      (λ (q : Gave M skipped (take held hold ++ piece) f). q .small)
+      which in
+      omega (arith, ap (λ (u : Told). length (take (u .length) xs)) e, packet-small (f .event) xs, small)
+
+  -- as many bytes as are taken are there
+  pub taken-there : f .looked - held ≤ length piece
+  taken-there =
+      ⊎-elim
+      (λ (q : Asked M skipped (take held hold ++ piece) f). omega (arith, q .all, length-append (take held hold) piece, front-long))
+      (λ (q : Gave M skipped (take held hold ++ piece) f). omega (arith, q .there, length-append (take held hold) piece, front-long))
+      which
+
+  -- what is left fits the hold
+  module _ (n : ℕ) (e : n ≡ f .looked - held) where
+    rest-is : drop (f .next) (take held hold ++ take (n - 0) piece) ≡ restOf f (take held hold) piece
+    rest-is =
+        let size : n - 0 ≡ f .looked - length (take held hold) = omega (arith, front-long) in
+        ap (λ (k : ℕ). drop (f .next) (take held hold ++ take k piece)) size
+
+    pub left-fits : length (drop (f .next) (take held hold ++ take (n - 0) piece)) ≤ length hold
+    left-fits =
+        omega
+        (arith, ap length rest-is, rest-fits M skipped (take held hold) piece f (omega (arith, front-long, rules .0)) which)
+
+    -- the whole answer
+    pub answer : (t : Told) (k : ℕ) (row buffer : List ℕ) → t ≡ told (f .event) → k ≡ length (drop (f .next) (take held hold ++ take (n - 0) piece))
+        → row ≡ padTo (length hold) (drop (f .next) (take held hold ++ take (n - 0) piece))
+        → buffer ≡ copied (take (t .length) (drop (f .at) (take (held - 0) hold ++ piece))) out
+        → (record { event = f .event; skipped = f .carried; taken = n; held = k; count = f .count } ≡ servedOf (called M (lent hold held skipped) piece out))
+        × ((row ≡ called M (lent hold held skipped) piece out .state .hold) × (buffer ≡ called M (lent hold held skipped) piece out .out))
+    unfolding answerBy packetOf
+    answer t k row buffer te ke re be =
+        let h = take held hold in
+        let is : called M (lent hold held skipped) piece out ≡ answerBy M f h piece out =
+        call-good M (lent hold held skipped) piece out s r ∙ ap (λ (g : Step). answerBy M g h piece out) (sym finds) in
+        let taken : n ≡ f .looked - length h = omega (arith, front-long) in
+        let left : k ≡ length (restOf f h piece) = ke ∙ ap length rest-is in (
+          (λ i. record { event = f .event; skipped = f .carried; taken = taken i; held = left i; count = f .count }) ∙ ap servedOf (sym is),
+          (
+            re ∙ ap (λ (m : ℕ). padTo m (drop (f .next) (h ++ take (n - 0) piece))) long ∙ ap (padTo (room M)) rest-is ∙ ap (λ (a : Answer). a .state .hold) (sym is),
+            be
+                ∙ ap (λ (u : Told). copied (take (u .length) (drop (f .at) (take (held - 0) hold ++ piece))) out) te
+                ∙ ap (λ (m : ℕ). copied (take (told (f .event) .length) (drop (f .at) (take m hold ++ piece))) out) part
+                ∙ ap (λ (a : Answer). a .out) (sym is),
+          ),
+        )

@@ -1,0 +1,44 @@
+-- `receiver::find::sum_of` meets its contract: the sum of both parts. Assumes nothing.
+use native.Mathlib.Omega.{arith}
+use Prim.Native.Nat.{ℕ, _+_, _-_}
+use mathlib.Core.Path.{_≡_, ap, _∙_}
+use lib.ListN.{length, take, drop, length-take}
+use Rattle.receiver.proofs.Spans.{sum-front, sum-both}
+use borrow.Author.Needs.{needs}
+use Rattle.receiver.proofs.find.sum_of.Statement.{statement}
+use Rattle.receiver.proofs.find.sum_of.Tie as tie
+
+returns : tie.Need-returns
+returns c = c .sum .ensures ∙ sum-front (c .before .before .before .before .before .args .l) (c .before .before .before .before .before .args .a .now) (c .before .before .before .before .before .args .b .now) (c .before .before .before .before .before .pre) (c .before .before .if1 .taken)
+
+sub-span : tie.Need-sub-span
+sub-span c = omega (arith, ap (length {A = ℕ}) (c .before .span .ensures), length-take (25 + c .before .before .before .before .before .args .l) (drop 2 (c .before .before .before .before .before .args .a .now)))
+
+returns-2 : tie.Need-returns-2
+returns-2 c =
+    let a = c .before .before .before .before .before .before .before .before .before .args in
+    let place : drop (c .before .before .before .before .less .result) (a .b .now) ≡ drop (2 - length (a .a .now)) (a .b .now) = ap (λ (n : ℕ). drop n (a .b .now)) (c .before .before .before .before .less .ensures) in
+    sum-both (a .l) (a .a .now) (a .b .now) (c .before .before .before .before .before .span .result .now) (c .before .before .before .span2 .result .now) _ _ _ (c .before .before .before .before .before .before .before .before .before .pre) (c .wrapping-add-u8 .ensures) (c .before .before .before .before .before .span .ensures)
+    (c .before .before .before .span2 .ensures ∙ ap (take (25 + a .l - length (c .before .before .before .before .before .span .result .now))) place) (c .before .before .sum2 .ensures) (c .before .sum3 .ensures)
+
+pub sum-of-spec : {M : Type 1} → statement M
+sum-of-spec =
+    tie.close
+    (tie.spec
+    (λ c. search needs)
+    (λ c. search needs)
+    (λ c. search needs)
+    (λ c. search needs)
+    (λ c. search needs)
+    (λ c κs. search needs)
+    returns
+    (λ c. search needs)
+    (λ c κs. search needs)
+    (λ c κs. search needs)
+    (λ c. search needs)
+    sub-span
+    (λ c κs. search needs)
+    (λ c κs. search needs)
+    (λ c κs. search needs)
+    (λ c κs. search needs)
+    returns-2)

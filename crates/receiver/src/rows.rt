@@ -1,0 +1,178 @@
+// Operations on rows of bytes.
+ghost use mathlib.Core.Path.{_≡_};
+ghost use mathlib.Core.List.{_++_};
+ghost use Prim.Native.Nat.{_+_, _-_, _≤_, min};
+ghost use lib.ListN.{length, take, drop, replicate};
+ghost use Rattle.reading.specs.Calls.{allZero};
+ghost use Rattle.receiver.specs.Runs.{noiseRun, plainRun, no64};
+
+// A difference, 0 where there is none.
+pub fn less(x: usize, y: usize) -> usize
+    ensures { λ r. ⌜ r ≡ x - y ⌝ }
+{
+    if x < y {
+        return 0;
+    }
+    x - y
+}
+
+// As many bytes from a place on as are there.
+pub fn span(s: &[u8], from: usize, count: usize) -> &[u8]
+    ensures { λ r. ⌜ now r ≡ take count (drop from (now (s .entry))) ⌝ }
+{
+    if s.len() < from {
+        return &s[0..0];
+    }
+    if s.len() - from < count {
+        return &s[from..];
+    }
+    &s[from..from + count]
+}
+
+// Whether every byte is zero: by blocks, and the last block may reach back over the one before.
+pub fn clear(s: &[u8]) -> bool
+    ensures { λ r. ⌜ r ≡ allZero (now (s .entry)) ⌝ }
+{
+    let n = s.len();
+    let mut i: usize = 0;
+    while 256 <= n - i {
+        if !zeros(&s[i..i + 256]) {
+            return false;
+        }
+        i = i + 256;
+    }
+    while 16 <= n - i {
+        if !zeros(&s[i..i + 16]) {
+            return false;
+        }
+        i = i + 16;
+    }
+    if 16 <= n {
+        return zeros(&s[n - 16..n]);
+    }
+    zeros(s)
+}
+
+// The same of a block, by a loop with no early way out, which the compiler makes fast.
+fn zeros(s: &[u8]) -> bool
+    ensures { λ r. ⌜ r ≡ allZero (now (s .entry)) ⌝ }
+{
+    let mut bits: u8 = 0;
+    let mut i: usize = 0;
+    while i < s.len() {
+        bits = bits | s[i];
+        i = i + 1;
+    }
+    bits == 0
+}
+
+// Whether no byte is 64, by such a loop.
+fn unmarked(s: &[u8]) -> bool
+    ensures { λ r. ⌜ r ≡ no64 (now (s .entry)) ⌝ }
+{
+    let mut hit: u8 = 0;
+    let mut i: usize = 0;
+    while i < s.len() {
+        if s[i] == 64 {
+            hit = 1;
+        }
+        i = i + 1;
+    }
+    hit == 0
+}
+
+// The bytes before the first 64: by blocks, then one by one.
+fn plain(s: &[u8]) -> usize
+    ensures { λ r. ⌜ r ≡ plainRun (now (s .entry)) ⌝ }
+{
+    if octets::byte_at(s, 0) == 64 {
+        return 0;
+    }
+    let n = s.len();
+    let mut i: usize = 0;
+    while 256 <= n - i && unmarked(&s[i..i + 256]) {
+        i = i + 256;
+    }
+    while 16 <= n - i && unmarked(&s[i..i + 16]) {
+        i = i + 16;
+    }
+    while i < n && s[i] != 64 {
+        i = i + 1;
+    }
+    i
+}
+
+// The bytes at the front that are noise for certain, at most so many.
+pub fn noise(s: &[u8], most: usize) -> usize
+    ensures { λ r. ⌜ r ≡ min most (noiseRun (now (s .entry))) ⌝ }
+{
+    let end = lower(most, s.len());
+    let mut i: usize = 0;
+    while i < end {
+        let at = i + plain(&s[i..end]);
+        if end <= at {
+            return end;
+        }
+        if s.len() <= at + 1 {
+            return at;
+        }
+        if s[at + 1] == 64 {
+            return at;
+        }
+        i = at + 1;
+    }
+    end
+}
+
+fn lower(x: usize, y: usize) -> usize
+    ensures { λ r. ⌜ r ≡ min x y ⌝ }
+{
+    if x < y {
+        return x;
+    }
+    y
+}
+
+// So many bytes moved to the front from a distance.
+pub fn shift(row: &mut [u8], by: usize, count: usize)
+    requires { ⌜ count ≤ length (now row) - by ⌝ }
+    ensures { λ r. ⌜ now (row .exit) ≡ take count (drop by (now (row .entry))) ++ drop count (now (row .entry)) ⌝ }
+{
+    if by == 0 {
+        return;
+    }
+    if by == 1 {
+        shift_one(row, count);
+        return;
+    }
+    let mut i: usize = 0;
+    while i < count {
+        row[i] = row[i + by];
+        i = i + 1;
+    }
+}
+
+// The same from a distance of one, as after most events: the compiler makes one move of this loop, and none of the other.
+fn shift_one(row: &mut [u8], count: usize)
+    requires { ⌜ count ≤ length (now row) - 1 ⌝ }
+    ensures { λ r. ⌜ now (row .exit) ≡ take count (drop 1 (now (row .entry))) ++ drop count (now (row .entry)) ⌝ }
+{
+    let mut i: usize = 0;
+    while i < count {
+        row[i] = row[i + 1];
+        i = i + 1;
+    }
+}
+
+// Zeros from one place to another.
+pub fn wipe(row: &mut [u8], from: usize, to: usize)
+    requires { ⌜ from ≤ to ⌝ }
+    requires { ⌜ to ≤ length (now row) ⌝ }
+    ensures { λ r. ⌜ now (row .exit) ≡ take from (now (row .entry)) ++ (replicate (to - from) 0 ++ drop to (now (row .entry))) ⌝ }
+{
+    let mut i: usize = from;
+    while i < to {
+        row[i] = 0;
+        i = i + 1;
+    }
+}
