@@ -1,22 +1,251 @@
--- "prove that no two different results satisfy it": over each public call's own contract, its `Post`.
--- Assumes nothing.
-use Prim.Native.Nat.{ℕ}
-use mathlib.Core.List.{List}
+-- "For each public call the statement determines answer, state and every lent byte on all inputs; prove that no two different results
+-- satisfy it": over each call's own contract, its `Post`, and not over a copy. Calls that lend nothing. Assumes nothing.
 use mathlib.Core.Path.{_≡_, sym, _∙_}
-use contract.Lifetimes.{Lfts}
-use denote.Ref.{RefT, now, ptr}
-use Rattle.packet.proofs.judge.Reads as judge
-use Rattle.output.proofs.write.Reads as write
-use Rattle.unit.proofs.object.Reads as object
-use Rattle.packet.specs.declared.Header.{Header}
-use Rattle.verdict.specs.declared.Verdict.{Verdict}
+use Rattle.octets.proofs.byte_at.Reads as octets-byte-at
+use Rattle.octets.proofs.two_at.Reads as octets-two-at
+use Rattle.octets.proofs.four_at.Reads as octets-four-at
+use Rattle.octets.proofs.two_bytes.Reads as octets-two-bytes
+use Rattle.octets.proofs.four_bytes.Reads as octets-four-bytes
+use Rattle.octets.proofs.signed.Reads as octets-signed
+use Rattle.octets.proofs.bits.Reads as octets-bits
+use Rattle.octets.proofs.sum.Reads as octets-sum
+use Rattle.verdict.proofs.Verdict.good.Reads as verdict-verdict-good
+use Rattle.verdict.proofs.Verdict.refused.Reads as verdict-verdict-refused
+use Rattle.verdict.proofs.Verdict.is_good.Reads as verdict-verdict-is-good
+use Rattle.verdict.proofs.Part.refused.Reads as verdict-part-refused
+use Rattle.verdict.proofs.all_numbers.Reads as verdict-all-numbers
+use Rattle.verdict.proofs.names.name_of.Reads as verdict-names-name-of
+use Rattle.label.proofs.Label.read_at.Reads as label-label-read-at
+use Rattle.label.proofs.Label.bytes.Reads as label-label-bytes
+use Rattle.label.proofs.Label.judge.Reads as label-label-judge
+use Rattle.label.proofs.Label.is_allowed.Reads as label-label-is-allowed
+use Rattle.kinds.proofs.row_of.Reads as kinds-row-of
+use Rattle.kinds.proofs.Row.is_carried_by.Reads as kinds-row-is-carried-by
+use Rattle.unit.proofs.judge_alone.Reads as unit-judge-alone
+use Rattle.unit.proofs.judge_under.Reads as unit-judge-under
+use Rattle.unit.proofs.object_place.Reads as unit-object-place
+use Rattle.unit.proofs.slot_place.Reads as unit-slot-place
+use Rattle.fields.proofs.read_fields.Reads as fields-read-fields
+use Rattle.fields.proofs.image_of.Reads as fields-image-of
+use Rattle.objects.proofs.read.Reads as objects-read
+use Rattle.objects.proofs.description_place.Reads as objects-description-place
+use Rattle.packet.proofs.judge_frame.Reads as packet-judge-frame
+use Rattle.packet.proofs.judge_content.Reads as packet-judge-content
+use Rattle.packet.proofs.judge.Reads as packet-judge
+use Rattle.packet.proofs.header_of.Reads as packet-header-of
+use Rattle.packet.proofs.read.Reads as packet-read
+use Rattle.packet.proofs.unit_place.Reads as packet-unit-place
+use Rattle.reading.proofs.Event.told.Reads as reading-event-told
+use Rattle.receiver.proofs.Receiver.fresh.Reads as receiver-receiver-fresh
+use Rattle.place.proofs.Mode.is_open.Reads as place-mode-is-open
+use Rattle.place.proofs.Mode.awaits.Reads as place-mode-awaits
+use Rattle.place.proofs.Outcome.code.Reads as place-outcome-code
+use Rattle.place.proofs.Place.free.Reads as place-place-free
+use Rattle.place.proofs.Place.holds.Reads as place-place-holds
+use Rattle.place.proofs.Place.keeps.Reads as place-place-keeps
+use Rattle.place.proofs.Place.denied.Reads as place-place-denied
+use Rattle.place.proofs.Place.ticked.Reads as place-place-ticked
+use Rattle.place.proofs.Place.fits.Reads as place-place-fits
+use Rattle.place.proofs.Place.replied.Reads as place-place-replied
+use Rattle.places.proofs.place_at.Reads as places-place-at
+use Rattle.places.proofs.lowest_free.Reads as places-lowest-free
+use Rattle.places.proofs.is_open_as.Reads as places-is-open-as
+use Rattle.places.proofs.twice.Reads as places-twice
+use Rattle.places.proofs.all_keep.Reads as places-all-keep
+use Rattle.places.proofs.after.Reads as places-after
+use Rattle.places.proofs.serial_for.Reads as places-serial-for
+use Rattle.places.proofs.fitting.Reads as places-fitting
+use Rattle.places.proofs.tick_all.Reads as places-tick-all
+use Rattle.exchange.proofs.Exchanges.fresh.Reads as exchange-exchanges-fresh
+use Rattle.exchange.proofs.Exchanges.begin.Reads as exchange-exchanges-begin
+use Rattle.exchange.proofs.Exchanges.reply.Reads as exchange-exchanges-reply
+use Rattle.exchange.proofs.Exchanges.tick.Reads as exchange-exchanges-tick
+use Rattle.devices.proofs.judge.Reads as devices-judge
+use Rattle.devices.proofs.find_place.Reads as devices-find-place
+use Rattle.octets.proofs.wide.Reads as octets-wide
 
-judge-determined : (κs : _) (x : _) (r s : _) → judge.Post κs x r x → judge.Post κs x s x → r ≡ s
-judge-determined κs x r s a b = a ∙ sym b
+pub octets-byte-at-determined : (κs : _) (x : _) (r s : _) → octets-byte-at.Post κs x r x → octets-byte-at.Post κs x s x → r ≡ s
+octets-byte-at-determined κs x r s a b = a ∙ sym b
 
-write-determined : (κs : Lfts 1) (out o p : RefT (List ℕ)) (h : Header) (l : ℕ) (r s : Verdict)
-    → write.Post κs (out, (h, (l, tt))) r (o, (h, (l, tt))) → write.Post κs (out, (h, (l, tt))) s (p, (h, (l, tt))) → (r ≡ s) × (now o ≡ now p)
-write-determined κs out o p h l r s a b = (a .0 ∙ sym (b .0), a .1 ∙ sym (b .1))
+pub octets-two-at-determined : (κs : _) (x : _) (r s : _) → octets-two-at.Post κs x r x → octets-two-at.Post κs x s x → r ≡ s
+octets-two-at-determined κs x r s a b = a ∙ sym b
 
-object-determined : (κs : _) (x : _) (r s : RefT (List ℕ)) → object.Post κs x r x → object.Post κs x s x → (now r ≡ now s) × (ptr r ≡ ptr s)
-object-determined κs x r s a b = (a .0 ∙ sym (b .0), a .1 ∙ sym (b .1))
+pub octets-four-at-determined : (κs : _) (x : _) (r s : _) → octets-four-at.Post κs x r x → octets-four-at.Post κs x s x → r ≡ s
+octets-four-at-determined κs x r s a b = a ∙ sym b
+
+pub octets-two-bytes-determined : (κs : _) (x : _) (r s : _) → octets-two-bytes.Post κs x r x → octets-two-bytes.Post κs x s x → r ≡ s
+octets-two-bytes-determined κs x r s a b = a ∙ sym b
+
+pub octets-four-bytes-determined : (κs : _) (x : _) (r s : _) → octets-four-bytes.Post κs x r x → octets-four-bytes.Post κs x s x → r ≡ s
+octets-four-bytes-determined κs x r s a b = a ∙ sym b
+
+pub octets-signed-determined : (κs : _) (x : _) (r s : _) → octets-signed.Post κs x r x → octets-signed.Post κs x s x → r ≡ s
+octets-signed-determined κs x r s a b = a ∙ sym b
+
+pub octets-bits-determined : (κs : _) (x : _) (r s : _) → octets-bits.Post κs x r x → octets-bits.Post κs x s x → r ≡ s
+octets-bits-determined κs x r s a b = a ∙ sym b
+
+pub octets-sum-determined : (κs : _) (x : _) (r s : _) → octets-sum.Post κs x r x → octets-sum.Post κs x s x → r ≡ s
+octets-sum-determined κs x r s a b = a ∙ sym b
+
+pub verdict-verdict-good-determined : (κs : _) (x : _) (r s : _) → verdict-verdict-good.Post κs x r x → verdict-verdict-good.Post κs x s x → r ≡ s
+verdict-verdict-good-determined κs x r s a b = a ∙ sym b
+
+pub verdict-verdict-refused-determined : (κs : _) (x : _) (r s : _) → verdict-verdict-refused.Post κs x r x → verdict-verdict-refused.Post κs x s x → r ≡ s
+verdict-verdict-refused-determined κs x r s a b = a ∙ sym b
+
+pub verdict-verdict-is-good-determined : (κs : _) (x : _) (r s : _) → verdict-verdict-is-good.Post κs x r x → verdict-verdict-is-good.Post κs x s x → r ≡ s
+verdict-verdict-is-good-determined κs x r s a b = a ∙ sym b
+
+pub verdict-part-refused-determined : (κs : _) (x : _) (r s : _) → verdict-part-refused.Post κs x r x → verdict-part-refused.Post κs x s x → r ≡ s
+verdict-part-refused-determined κs x r s a b = a ∙ sym b
+
+pub verdict-all-numbers-determined : (κs : _) (x : _) (r s : _) → verdict-all-numbers.Post κs x r x → verdict-all-numbers.Post κs x s x → r ≡ s
+verdict-all-numbers-determined κs x r s a b = a ∙ sym b
+
+pub verdict-names-name-of-determined : (κs : _) (x : _) (r s : _) → verdict-names-name-of.Post κs x r x → verdict-names-name-of.Post κs x s x → r ≡ s
+verdict-names-name-of-determined κs x r s a b = a ∙ sym b
+
+pub label-label-read-at-determined : (κs : _) (x : _) (r s : _) → label-label-read-at.Post κs x r x → label-label-read-at.Post κs x s x → r ≡ s
+label-label-read-at-determined κs x r s a b = a ∙ sym b
+
+pub label-label-bytes-determined : (κs : _) (x : _) (r s : _) → label-label-bytes.Post κs x r x → label-label-bytes.Post κs x s x → r ≡ s
+label-label-bytes-determined κs x r s a b = a ∙ sym b
+
+pub label-label-judge-determined : (κs : _) (x : _) (r s : _) → label-label-judge.Post κs x r x → label-label-judge.Post κs x s x → r ≡ s
+label-label-judge-determined κs x r s a b = a ∙ sym b
+
+pub label-label-is-allowed-determined : (κs : _) (x : _) (r s : _) → label-label-is-allowed.Post κs x r x → label-label-is-allowed.Post κs x s x → r ≡ s
+label-label-is-allowed-determined κs x r s a b = a ∙ sym b
+
+pub kinds-row-of-determined : (κs : _) (x : _) (r s : _) → kinds-row-of.Post κs x r x → kinds-row-of.Post κs x s x → r ≡ s
+kinds-row-of-determined κs x r s a b = a ∙ sym b
+
+pub kinds-row-is-carried-by-determined : (κs : _) (x : _) (r s : _) → kinds-row-is-carried-by.Post κs x r x → kinds-row-is-carried-by.Post κs x s x → r ≡ s
+kinds-row-is-carried-by-determined κs x r s a b = a ∙ sym b
+
+pub unit-judge-alone-determined : (κs : _) (x : _) (r s : _) → unit-judge-alone.Post κs x r x → unit-judge-alone.Post κs x s x → r ≡ s
+unit-judge-alone-determined κs x r s a b = a ∙ sym b
+
+pub unit-judge-under-determined : (κs : _) (x : _) (r s : _) → unit-judge-under.Post κs x r x → unit-judge-under.Post κs x s x → r ≡ s
+unit-judge-under-determined κs x r s a b = a ∙ sym b
+
+pub unit-object-place-determined : (κs : _) (x : _) (r s : _) → unit-object-place.Post κs x r x → unit-object-place.Post κs x s x → r ≡ s
+unit-object-place-determined κs x r s a b = a ∙ sym b
+
+pub unit-slot-place-determined : (κs : _) (x : _) (r s : _) → unit-slot-place.Post κs x r x → unit-slot-place.Post κs x s x → r ≡ s
+unit-slot-place-determined κs x r s a b = a ∙ sym b
+
+pub fields-read-fields-determined : (κs : _) (x : _) (r s : _) → fields-read-fields.Post κs x r x → fields-read-fields.Post κs x s x → r ≡ s
+fields-read-fields-determined κs x r s a b = a ∙ sym b
+
+pub fields-image-of-determined : (κs : _) (x : _) (r s : _) → fields-image-of.Post κs x r x → fields-image-of.Post κs x s x → r ≡ s
+fields-image-of-determined κs x r s a b = a ∙ sym b
+
+pub objects-read-determined : (κs : _) (x : _) (r s : _) → objects-read.Post κs x r x → objects-read.Post κs x s x → r ≡ s
+objects-read-determined κs x r s a b = a ∙ sym b
+
+pub objects-description-place-determined : (κs : _) (x : _) (r s : _) → objects-description-place.Post κs x r x → objects-description-place.Post κs x s x → r ≡ s
+objects-description-place-determined κs x r s a b = a ∙ sym b
+
+pub packet-judge-frame-determined : (κs : _) (x : _) (r s : _) → packet-judge-frame.Post κs x r x → packet-judge-frame.Post κs x s x → r ≡ s
+packet-judge-frame-determined κs x r s a b = a ∙ sym b
+
+pub packet-judge-content-determined : (κs : _) (x : _) (r s : _) → packet-judge-content.Post κs x r x → packet-judge-content.Post κs x s x → r ≡ s
+packet-judge-content-determined κs x r s a b = a ∙ sym b
+
+pub packet-judge-determined : (κs : _) (x : _) (r s : _) → packet-judge.Post κs x r x → packet-judge.Post κs x s x → r ≡ s
+packet-judge-determined κs x r s a b = a ∙ sym b
+
+pub packet-header-of-determined : (κs : _) (x : _) (r s : _) → packet-header-of.Post κs x r x → packet-header-of.Post κs x s x → r ≡ s
+packet-header-of-determined κs x r s a b = a ∙ sym b
+
+pub packet-read-determined : (κs : _) (x : _) (r s : _) → packet-read.Post κs x r x → packet-read.Post κs x s x → r ≡ s
+packet-read-determined κs x r s a b = a ∙ sym b
+
+pub packet-unit-place-determined : (κs : _) (x : _) (r s : _) → packet-unit-place.Post κs x r x → packet-unit-place.Post κs x s x → r ≡ s
+packet-unit-place-determined κs x r s a b = a ∙ sym b
+
+pub reading-event-told-determined : (κs : _) (x : _) (r s : _) → reading-event-told.Post κs x r x → reading-event-told.Post κs x s x → r ≡ s
+reading-event-told-determined κs x r s a b = a ∙ sym b
+
+pub receiver-receiver-fresh-determined : (κs : _) (x : _) (r s : _) → receiver-receiver-fresh.Post κs x r x → receiver-receiver-fresh.Post κs x s x → r ≡ s
+receiver-receiver-fresh-determined κs x r s a b = a ∙ sym b
+
+pub place-mode-is-open-determined : (κs : _) (x : _) (r s : _) → place-mode-is-open.Post κs x r x → place-mode-is-open.Post κs x s x → r ≡ s
+place-mode-is-open-determined κs x r s a b = a ∙ sym b
+
+pub place-mode-awaits-determined : (κs : _) (x : _) (r s : _) → place-mode-awaits.Post κs x r x → place-mode-awaits.Post κs x s x → r ≡ s
+place-mode-awaits-determined κs x r s a b = a ∙ sym b
+
+pub place-outcome-code-determined : (κs : _) (x : _) (r s : _) → place-outcome-code.Post κs x r x → place-outcome-code.Post κs x s x → r ≡ s
+place-outcome-code-determined κs x r s a b = a ∙ sym b
+
+pub place-place-free-determined : (κs : _) (x : _) (r s : _) → place-place-free.Post κs x r x → place-place-free.Post κs x s x → r ≡ s
+place-place-free-determined κs x r s a b = a ∙ sym b
+
+pub place-place-holds-determined : (κs : _) (x : _) (r s : _) → place-place-holds.Post κs x r x → place-place-holds.Post κs x s x → r ≡ s
+place-place-holds-determined κs x r s a b = a ∙ sym b
+
+pub place-place-keeps-determined : (κs : _) (x : _) (r s : _) → place-place-keeps.Post κs x r x → place-place-keeps.Post κs x s x → r ≡ s
+place-place-keeps-determined κs x r s a b = a ∙ sym b
+
+pub place-place-denied-determined : (κs : _) (x : _) (r s : _) → place-place-denied.Post κs x r x → place-place-denied.Post κs x s x → r ≡ s
+place-place-denied-determined κs x r s a b = a ∙ sym b
+
+pub place-place-ticked-determined : (κs : _) (x : _) (r s : _) → place-place-ticked.Post κs x r x → place-place-ticked.Post κs x s x → r ≡ s
+place-place-ticked-determined κs x r s a b = a ∙ sym b
+
+pub place-place-fits-determined : (κs : _) (x : _) (r s : _) → place-place-fits.Post κs x r x → place-place-fits.Post κs x s x → r ≡ s
+place-place-fits-determined κs x r s a b = a ∙ sym b
+
+pub place-place-replied-determined : (κs : _) (x : _) (r s : _) → place-place-replied.Post κs x r x → place-place-replied.Post κs x s x → r ≡ s
+place-place-replied-determined κs x r s a b = a ∙ sym b
+
+pub places-place-at-determined : (κs : _) (x : _) (r s : _) → places-place-at.Post κs x r x → places-place-at.Post κs x s x → r ≡ s
+places-place-at-determined κs x r s a b = a ∙ sym b
+
+pub places-lowest-free-determined : (κs : _) (x : _) (r s : _) → places-lowest-free.Post κs x r x → places-lowest-free.Post κs x s x → r ≡ s
+places-lowest-free-determined κs x r s a b = a ∙ sym b
+
+pub places-is-open-as-determined : (κs : _) (x : _) (r s : _) → places-is-open-as.Post κs x r x → places-is-open-as.Post κs x s x → r ≡ s
+places-is-open-as-determined κs x r s a b = a ∙ sym b
+
+pub places-twice-determined : (κs : _) (x : _) (r s : _) → places-twice.Post κs x r x → places-twice.Post κs x s x → r ≡ s
+places-twice-determined κs x r s a b = a ∙ sym b
+
+pub places-all-keep-determined : (κs : _) (x : _) (r s : _) → places-all-keep.Post κs x r x → places-all-keep.Post κs x s x → r ≡ s
+places-all-keep-determined κs x r s a b = a ∙ sym b
+
+pub places-after-determined : (κs : _) (x : _) (r s : _) → places-after.Post κs x r x → places-after.Post κs x s x → r ≡ s
+places-after-determined κs x r s a b = a ∙ sym b
+
+pub places-serial-for-determined : (κs : _) (x : _) (r s : _) → places-serial-for.Post κs x r x → places-serial-for.Post κs x s x → r ≡ s
+places-serial-for-determined κs x r s a b = a ∙ sym b
+
+pub places-fitting-determined : (κs : _) (x : _) (r s : _) → places-fitting.Post κs x r x → places-fitting.Post κs x s x → r ≡ s
+places-fitting-determined κs x r s a b = a ∙ sym b
+
+pub places-tick-all-determined : (κs : _) (x : _) (r s : _) → places-tick-all.Post κs x r x → places-tick-all.Post κs x s x → r ≡ s
+places-tick-all-determined κs x r s a b = a ∙ sym b
+
+pub exchange-exchanges-fresh-determined : (κs : _) (x : _) (r s : _) → exchange-exchanges-fresh.Post κs x r x → exchange-exchanges-fresh.Post κs x s x → r ≡ s
+exchange-exchanges-fresh-determined κs x r s a b = a ∙ sym b
+
+pub exchange-exchanges-begin-determined : (κs : _) (x : _) (r s : _) → exchange-exchanges-begin.Post κs x r x → exchange-exchanges-begin.Post κs x s x → r ≡ s
+exchange-exchanges-begin-determined κs x r s a b = a ∙ sym b
+
+pub exchange-exchanges-reply-determined : (κs : _) (x : _) (r s : _) → exchange-exchanges-reply.Post κs x r x → exchange-exchanges-reply.Post κs x s x → r ≡ s
+exchange-exchanges-reply-determined κs x r s a b = a ∙ sym b
+
+pub exchange-exchanges-tick-determined : (κs : _) (x : _) (r s : _) → exchange-exchanges-tick.Post κs x r x → exchange-exchanges-tick.Post κs x s x → r ≡ s
+exchange-exchanges-tick-determined κs x r s a b = a ∙ sym b
+
+pub devices-judge-determined : (κs : _) (x : _) (r s : _) → devices-judge.Post κs x r x → devices-judge.Post κs x s x → r ≡ s
+devices-judge-determined κs x r s a b = a ∙ sym b
+
+pub devices-find-place-determined : (κs : _) (x : _) (r s : _) → devices-find-place.Post κs x r x → devices-find-place.Post κs x s x → r ≡ s
+devices-find-place-determined κs x r s a b = a ∙ sym b
+
+pub octets-wide-determined : (κs : _) (x : _) (r s : _) → octets-wide.Post κs x r x → octets-wide.Post κs x s x → r ≡ s
+octets-wide-determined κs x r s a b = a .0 ∙ sym (b .0)
