@@ -1,5 +1,5 @@
--- The same of calls that hand back a part, whose bytes and place are determined, and of those that lend memory, whose every byte is.
--- Assumes nothing.
+-- The same of calls that hand back a part, whose bytes and place are determined, and of those that lend memory, whose every byte is;
+-- of the receiver's two calls `Rattle.receiver.proofs.Demands` says it. Assumes nothing.
 use Prim.Native.Nat.{ℕ}
 use mathlib.Core.List.{List}
 use mathlib.Core.Path.{_≡_, sym, _∙_}
@@ -7,9 +7,6 @@ use denote.Ref.{RefT, now, ptr}
 use Rattle.fields.specs.declared.Fields.{Fields}
 use Rattle.label.specs.declared.Label.{Label}
 use Rattle.packet.specs.declared.Header.{Header}
-use Rattle.receiver.specs.declared.Receiver.{Receiver}
-use Rattle.receiver.specs.declared.Received.{Received}
-use Rattle.receiver.specs.declared.Served.{Served}
 use Rattle.reply.specs.declared.Answer.{Answer}
 use Rattle.verdict.specs.declared.Verdict.{Verdict}
 use Rattle.octets.proofs.part_of.Reads as octets-part-of
@@ -23,9 +20,7 @@ use Rattle.output.proofs.write_text.Reads as output-write-text
 use Rattle.objects.proofs.write.Reads as objects-write
 use Rattle.objects.proofs.write_text.Reads as objects-write-text
 use Rattle.reply.proofs.answer_to.Reads as reply-answer-to
-use Rattle.receiver.proofs.Receiver.receive.Reads as receiver-receiver-receive
 use Rattle.octets.proofs.put.Reads as octets-put
-use Rattle.receiver.proofs.receive_lent.Reads as receiver-receive-lent
 
 pub octets-part-of-determined : (κs : _) (x : _) (r s : RefT (List ℕ)) → octets-part-of.Post κs x r x → octets-part-of.Post κs x s x → (now r ≡ now s) × (ptr r ≡ ptr s)
 octets-part-of-determined κs x r s a b = (a .0 ∙ sym (b .0), a .1 ∙ sym (b .1))
@@ -66,16 +61,6 @@ pub reply-answer-to-determined : (κs : _) (out o o' : RefT (List ℕ)) (p : Ref
     → reply-answer-to.Post κs (p, (t, (out, tt))) r (p, (t, (o, tt))) → reply-answer-to.Post κs (p, (t, (out, tt))) s (p, (t, (o', tt))) → (r ≡ s) × (now o ≡ now o')
 reply-answer-to-determined κs out o o' p t r s a b = (a .0 ∙ sym (b .0), a .1 ∙ sym (b .1))
 
-pub receiver-receiver-receive-determined : (κs : _) (out o o' : RefT (List ℕ)) (x : Receiver) (piece : RefT (List ℕ)) (r s : Received)
-    → receiver-receiver-receive.Post κs (x, (piece, (out, tt))) r (x, (piece, (o, tt))) → receiver-receiver-receive.Post κs (x, (piece, (out, tt))) s (x, (piece, (o', tt))) → (r ≡ s) × (now o ≡ now o')
-receiver-receiver-receive-determined κs out o o' x piece r s a b = (a .0 ∙ sym (b .0), a .1 ∙ sym (b .1))
-
 pub octets-put-determined : (κs : _) (out o o' : RefT (List ℕ)) (k : ℕ) (t : RefT (List ℕ)) (r s : _)
     → octets-put.Post κs (out, (k, (t, tt))) r (o, (k, (t, tt))) → octets-put.Post κs (out, (k, (t, tt))) s (o', (k, (t, tt))) → now o ≡ now o'
 octets-put-determined κs out o o' k t r s a b = a ∙ sym b
-
-pub receiver-receive-lent-determined : (κs : _) (hold g g' out o o' : RefT (List ℕ)) (h c : ℕ) (piece : RefT (List ℕ)) (r s : Served)
-    → receiver-receive-lent.Post κs (hold, (h, (c, (piece, (out, tt))))) r (g, (h, (c, (piece, (o, tt)))))
-    → receiver-receive-lent.Post κs (hold, (h, (c, (piece, (out, tt))))) s (g', (h, (c, (piece, (o', tt)))))
-    → (r ≡ s) × (now g ≡ now g') × (now o ≡ now o')
-receiver-receive-lent-determined κs hold g g' out o o' h c piece r s a b = (a .0 ∙ sym (b .0), a .1 .0 ∙ sym (b .1 .0), a .1 .1 ∙ sym (b .1 .1))
