@@ -1,3 +1,4 @@
 pub mod Determined
 pub mod Lent
 pub mod Checked
+pub mod Demands

@@ -42,7 +42,7 @@ head-is h l s k t es ek et a b =
     ∙ ap (λ (x : List ℕ). front (h .source ++ (x ++ (bytesOf 2 l ++ (h .command ∷ []))))) (six (h .destination) b)
 
 -- bytes put where they stand change nothing
-put-same : (o : List ℕ) (at : ℕ) (x : List ℕ) → at + length x ≤ length o → x ≡ take (length x) (drop at o) → putAt o at x ≡ o
+pub put-same : (o : List ℕ) (at : ℕ) (x : List ℕ) → at + length x ≤ length o → x ≡ take (length x) (drop at o) → putAt o at x ≡ o
 put-same o at x fits e =
     put-is o at x fits
     ∙ ap (λ (y : List ℕ). take at o ++ y ++ drop (at + length x) o) e

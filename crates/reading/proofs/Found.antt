@@ -18,7 +18,7 @@ use Rattle.reading.specs.Values.{asks, told, packetOf}
 use Rattle.reading.specs.Standing.{room, stands}
 use Rattle.reading.specs.Finding.{noiseAt, onward, more, noise, hit, found, first, Heard, Reading, after, readOn, reading}
 use Rattle.reading.proofs.Worths.{worth}
-use Rattle.reading.proofs.Stands.{decided, stable, Bounds, bounds, nothing-waits}
+use Rattle.reading.proofs.Stands.{stays, Bounds, bounds, nothing-waits}
 
 -- an event survives more bytes
 pub first-stable : (M s : ℕ) (xs ys : List ℕ) → asks (first M s xs .event) ≡ false → first M s (xs ++ ys) ≡ first M s xs
@@ -26,9 +26,6 @@ unfolding first found more onward asks
 first-stable M s [] ys a = absurd (true≢false a)
 first-stable M s (x ∷ xs) ys a = by-case (stands M (x ∷ xs)) refl a (first-stable M (suc s) xs ys)
   where
-    kept : (v : Standing) → stands M (x ∷ xs) ≡ v → decided v ≡ true → stands M (x ∷ xs ++ ys) ≡ v
-    kept v e d = stable (x ∷ xs) ys M (ap decided e ∙ d) ∙ e
-
     by-test : (k : ℕ) (t : Bool) → asks (cond t (noise k) (onward (first M (suc s) xs)) .event) ≡ false
         → (asks (first M (suc s) xs .event) ≡ false → first M (suc s) (xs ++ ys) ≡ first M (suc s) xs)
         → cond t (noise k) (onward (first M (suc s) (xs ++ ys))) ≡ cond t (noise k) (onward (first M (suc s) xs))
@@ -39,8 +36,8 @@ first-stable M s (x ∷ xs) ys a = by-case (stands M (x ∷ xs)) refl a (first-s
         → (asks (first M (suc s) xs .event) ≡ false → first M (suc s) (xs ++ ys) ≡ first M (suc s) xs)
         → found (stands M (x ∷ xs ++ ys)) s (length (x ∷ xs ++ ys)) (first M (suc s) (xs ++ ys)) ≡ found (stands M (x ∷ xs)) s (length (x ∷ xs)) (first M (suc s) xs)
     by-case Wait e a ih = absurd (true≢false a)
-    by-case (Skip k) e a ih = rw (e, kept (Skip k) e refl) (by-test k (eqb (suc s) noiseAt) a ih)
-    by-case (Hit w k p) e a ih = rw (e, kept (Hit w k p) e refl) refl
+    by-case (Skip k) e a ih = rw (e, stays M (x ∷ xs) ys (Skip k) e refl) (by-test k (eqb (suc s) noiseAt) a ih)
+    by-case (Hit w k p) e a ih = rw (e, stays M (x ∷ xs) ys (Hit w k p) e refl) refl
 
 -- the bounds where more is asked for: all was looked at, and what was not skipped is too few bytes to decide
 pub record Asked (M s : ℕ) (xs : List ℕ) (f : Step) : Type 0 where
@@ -161,9 +158,6 @@ unfolding first found more noise hit onward asks reading readOn told packetOf
 reading-first M s [] ys = refl
 reading-first M s (x ∷ xs) ys = by-case (stands M (x ∷ xs)) refl (bounds M (x ∷ xs)) (reading-first M (suc s) xs ys)
   where
-    kept : (v : Standing) → stands M (x ∷ xs) ≡ v → decided v ≡ true → stands M (x ∷ xs ++ ys) ≡ v
-    kept v e d = stable (x ∷ xs) ys M (ap decided e ∙ d) ∙ e
-
     by-test : (k : ℕ) (t : Bool) → GoesOn M (suc s) (xs ++ ys) (first M (suc s) xs)
         → cond t (after (record { event = Noise; skipped = noiseAt; packet = [] }) (reading M 0 0 (xs ++ ys))) (reading M (suc s) 0 (xs ++ ys))
         ≡ hearing (cond t (noise k) (onward (first M (suc s) xs))) (x ∷ xs ++ ys)
@@ -182,5 +176,5 @@ reading-first M s (x ∷ xs) ys = by-case (stands M (x ∷ xs)) refl (bounds M (
     by-case : (v : Standing) → stands M (x ∷ xs) ≡ v → Bounds M (x ∷ xs) v → GoesOn M (suc s) (xs ++ ys) (first M (suc s) xs)
         → GoesOn M s (x ∷ xs ++ ys) (found (stands M (x ∷ xs)) s (length (x ∷ xs)) (first M (suc s) xs))
     by-case Wait e b ih = rw e refl
-    by-case (Skip k) e b ih = rw (e, kept (Skip k) e refl) (by-test k (eqb (suc s) noiseAt) ih)
-    by-case (Hit w k p) e b ih = rw (e, kept (Hit w k p) e refl) (by-hit w k p (b .1) (b .5))
+    by-case (Skip k) e b ih = rw (e, stays M (x ∷ xs) ys (Skip k) e refl) (by-test k (eqb (suc s) noiseAt) ih)
+    by-case (Hit w k p) e b ih = rw (e, stays M (x ∷ xs) ys (Hit w k p) e refl) (by-hit w k p (b .1) (b .5))

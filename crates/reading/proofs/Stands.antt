@@ -112,6 +112,9 @@ module _ (xs ys : List ℕ) where
       (started-kept M) (same (Skip 2))))
       (same (Skip 1)))
 
+pub stays : (M : ℕ) (xs ys : List ℕ) (v : Standing) → stands M xs ≡ v → decided v ≡ true → stands M (xs ++ ys) ≡ v
+stays M xs ys v e d = stable xs ys M (ap decided e ∙ d) ∙ e
+
 -- the bounds of what stands at the head of a list: too few bytes are fewer than the room, and a decision has looked at what is there,
 -- at no more than the room, and passes at least one byte and none that it did not look at
 abbrev pub Bounds : ℕ → List ℕ → Standing → Type 0

@@ -1,13 +1,28 @@
 -- What is found some way ahead, and where nothing is skipped. Assumes nothing.
-use Prim.Native.Nat.{ℕ, _+_}
+use Prim.Native.Nat.{ℕ, _+_, _≤_}
 use native.Mathlib.Omega.{arith}
-use mathlib.Core.Path.{_≡_, refl}
+use mathlib.Core.List.{List, _++_}
+use mathlib.Core.Path.{_≡_, refl, subst}
+use lib.ListN.{length, length-append}
 use Rattle.reading.specs.declared.Event.{Event}
 use Rattle.reading.specs.declared.Event.the-variants.{More, Noise}
 use Rattle.reading.specs.declared.Standing.the-variants.{Wait, Skip, Hit}
 use Rattle.reading.specs.declared.Step.{Step}
+use Rattle.reading.specs.Standing.{stands}
 use Rattle.reading.specs.Finding.{noiseAt, more, noise, hit}
+use Rattle.reading.proofs.Stands.{Bounds, bounds}
 use Rattle.receiver.specs.Runs.{ahead, settled}
+
+-- what stands at the head of two rows looked at no more than is there
+pub skip-few : (M : ℕ) (a b : List ℕ) {k : ℕ} → stands M (a ++ b) ≡ Skip k → (1 ≤ k) × (k ≤ length a + length b)
+skip-few M a b e =
+    let few = subst (Bounds M (a ++ b)) e (bounds M (a ++ b)) in
+    (few .0, omega (arith, few .2, length-append a b))
+
+pub hit-few : (M : ℕ) (a b : List ℕ) {e : Event} {k p : ℕ} → stands M (a ++ b) ≡ Hit e k p → (p ≤ k) × (k ≤ length a + length b)
+hit-few M a b e =
+    let few = subst (Bounds M (a ++ b)) e (bounds M (a ++ b)) in
+    (few .2, omega (arith, few .3, length-append a b))
 
 -- a step whose three places lie so much further
 further : (f : Step) (n at looked next : ℕ) → at ≡ n + f .at → looked ≡ n + f .looked → next ≡ n + f .next

@@ -1,39 +1,42 @@
 -- `receiver::find::here` meets its contract by the case that it was told. Assumes nothing.
 use native.Mathlib.Omega.{arith}
 use mathlib.Core.List.{_++_}
-use mathlib.Core.Path.{sym, ap, subst, _∙_}
+use mathlib.Core.Path.{sym, ap, _∙_}
 use lib.ListN.{length, length-append}
 use Rattle.reading.specs.declared.Standing.{Standing}
-use Rattle.reading.proofs.Stands.{Bounds, bounds}
 use Rattle.receiver.specs.Runs.{ahead, settled}
-use Rattle.receiver.proofs.Aheads.{ahead-wait, ahead-skip, ahead-hit}
+use Rattle.receiver.proofs.Aheads.{skip-few, hit-few, ahead-wait, ahead-skip, ahead-hit}
 use borrow.Author.Needs.{needs}
 use Rattle.receiver.proofs.find.here.Statement.{statement}
 use Rattle.receiver.proofs.find.here.Tie as tie
 
 add-t18 : tie.Need-add-t18
 add-t18 c =
-    let xs = c .before .before .before .before .before .before .args .a .now ++ c .before .before .before .before .before .before .args .b .now in
-    let b = subst (Bounds (c .before .before .before .before .before .before .args .max) xs) (sym (c .before .before .before .stand .ensures) ∙ c .before .k .given .1) (bounds (c .before .before .before .before .before .before .args .max) xs) in
-    omega (arith, b .2, length-append (c .before .before .before .before .before .before .args .a .now) (c .before .before .before .before .before .before .args .b .now), c .before .before .before .before .before .before .pre .1 .1)
+    let s = c .before .before .before in
+    let a = s .before .before .before .args in
+    let few = skip-few (a .max) (a .a .now) (a .b .now) (sym (s .stand .ensures) ∙ c .before .k .given .1) in
+    omega (arith, few, s .before .before .before .pre .1 .1)
 
 add-t19 : tie.Need-add-t19
 add-t19 c =
-    let xs = c .before .before .before .before .before .before .args .a .now ++ c .before .before .before .before .before .before .args .b .now in
-    let b = subst (Bounds (c .before .before .before .before .before .before .args .max) xs) (sym (c .before .before .before .stand .ensures) ∙ c .before .k .given .1) (bounds (c .before .before .before .before .before .before .args .max) xs) in
-    omega (arith, b .0, b .2, length-append (c .before .before .before .before .before .before .args .a .now) (c .before .before .before .before .before .before .args .b .now), c .before .before .before .before .before .before .pre .1 .1)
+    let s = c .before .before .before in
+    let a = s .before .before .before .args in
+    let few = skip-few (a .max) (a .a .now) (a .b .now) (sym (s .stand .ensures) ∙ c .before .k .given .1) in
+    omega (arith, few, s .before .before .before .pre .1 .1)
 
 add-t20 : tie.Need-add-t20
 add-t20 c =
-    let xs = c .before .before .before .before .before .before .args .a .now ++ c .before .before .before .before .before .before .args .b .now in
-    let b = subst (Bounds (c .before .before .before .before .before .before .args .max) xs) (sym (c .before .before .before .stand .ensures) ∙ c .before .event .given .1) (bounds (c .before .before .before .before .before .before .args .max) xs) in
-    omega (arith, b .3, length-append (c .before .before .before .before .before .before .args .a .now) (c .before .before .before .before .before .before .args .b .now), c .before .before .before .before .before .before .pre .1 .1)
+    let s = c .before .before .before in
+    let a = s .before .before .before .args in
+    let few = hit-few (a .max) (a .a .now) (a .b .now) (sym (s .stand .ensures) ∙ c .before .event .given .1) in
+    omega (arith, few, s .before .before .before .pre .1 .1)
 
 add-t21 : tie.Need-add-t21
 add-t21 c =
-    let xs = c .before .before .before .before .before .before .args .a .now ++ c .before .before .before .before .before .before .args .b .now in
-    let b = subst (Bounds (c .before .before .before .before .before .before .args .max) xs) (sym (c .before .before .before .stand .ensures) ∙ c .before .event .given .1) (bounds (c .before .before .before .before .before .before .args .max) xs) in
-    omega (arith, b .2, b .3, length-append (c .before .before .before .before .before .before .args .a .now) (c .before .before .before .before .before .before .args .b .now), c .before .before .before .before .before .before .pre .1 .1)
+    let s = c .before .before .before in
+    let a = s .before .before .before .args in
+    let few = hit-few (a .max) (a .a .now) (a .b .now) (sym (s .stand .ensures) ∙ c .before .event .given .1) in
+    omega (arith, few, s .before .before .before .pre .1 .1)
 
 returns : tie.Need-returns
 returns c =
