@@ -24,10 +24,9 @@ use Rattle.objects.specs.Texts.{textVerdict, writtenText}
 use Rattle.objects.proofs.Promises.{written-reads, written-stays-good}
 use Rattle.octets.specs.Numbers.{Octets}
 use Rattle.octets.specs.Parts.{part, putAt}
-use Rattle.octets.proofs.Parts.{part-is, length-part}
+use Rattle.octets.proofs.Parts.{part-is, length-part, put-same}
 use Rattle.output.specs.Writing.{roomTests, packetVerdict, writtenPacket}
 use Rattle.output.specs.Objects.{objectVerdict, writtenObject}
-use Rattle.output.proofs.Filling.{put-same}
 use Rattle.output.proofs.Judging.{kept, roomy}
 use Rattle.output.proofs.Promises.{written-again, sent-there, sent-good, sent-opened, sent-unit}
 use Rattle.output.proofs.Sent.{Fitting}

@@ -2,7 +2,7 @@
 use Prim.Native.Nat.{ℕ, _%_}
 use mathlib.Core.Path.{_≡_, refl}
 use mathlib.Core.List.{List, [], _∷_, map}
-use lib.IntN.{ℤ, pos, negsuc}
+use lib.IntN.{pos, negsuc}
 use lib.ListN.{take, drop}
 use Rattle.octets.specs.Numbers.{lowFirst, bytesOf, signedOf, bitsOf}
 use Rattle.octets.specs.Sums.{total}

@@ -2,7 +2,7 @@
 -- Assumes nothing.
 use Prim.Native.Nat.{ℕ, zero, suc, _+_, _-_, _≤_, _<_}
 use native.Mathlib.Omega.{arith}
-use mathlib.Core.Bool.{Bool, true, false, cond}
+use mathlib.Core.Bool.{Bool, true, false}
 use mathlib.Core.Path.{_≡_, refl, sym, ap, _∙_}
 use mathlib.Core.List.{List, [], _∷_, _++_, append-assoc}
 use borrow.Author.Tests.{le-leb, lt-leb, leb-true, leb-false}
@@ -136,3 +136,13 @@ pub put-from : (o : List ℕ) (at : ℕ) (bytes : List ℕ) → at + length byte
 put-from o at bytes fits =
     ap (drop at) (put-is o at bytes fits ∙ append-assoc (take at o) bytes (drop (at + length bytes) o))
     ∙ drop-at (take at o) (bytes ++ drop (at + length bytes) o) at (length-take-le at o (omega arith))
+
+-- bytes put where they stand change nothing
+pub put-same : (o : List ℕ) (at : ℕ) (x : List ℕ) → at + length x ≤ length o → x ≡ take (length x) (drop at o) → putAt o at x ≡ o
+put-same o at x fits e =
+    put-is o at x fits
+    ∙ ap (λ (y : List ℕ). take at o ++ y ++ drop (at + length x) o) e
+    ∙ ap (λ (y : List ℕ). take at o ++ take (length x) (drop at o) ++ y) (sym (drop-drop (length x) at o))
+    ∙ append-assoc (take at o) (take (length x) (drop at o)) (drop (length x) (drop at o))
+    ∙ ap (λ (y : List ℕ). take at o ++ y) (take-append-drop (length x) (drop at o))
+    ∙ take-append-drop at o

@@ -1,7 +1,7 @@
 -- The searches that the documents' sentences speak of: "the first bad object", "the lowest free place", "no such part".
 -- Each is over a test and a run of n places from i on. Assumes nothing.
 use Prim.Native.Nat.{ℕ, zero, suc}
-use mathlib.Core.Bool.{Bool, true, false, not, cond, _&&_, _||_}
+use mathlib.Core.Bool.{Bool, false, not, cond, _||_}
 
 -- the first place that fits, the end of the run where none does
 unfoldable pub firstFit : (ℕ → Bool) → ℕ → ℕ → ℕ

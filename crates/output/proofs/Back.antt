@@ -11,7 +11,7 @@ use lib.Seq.{take-all, take-append-add, drop-append-le}
 use Rattle.kinds.specs.declared.Row.{Row}
 use Rattle.label.specs.Times.{labelOf, labelBytes}
 use Rattle.octets.specs.Numbers.{Octets, lowFirst, bytesOf}
-use Rattle.octets.specs.Parts.{part, oneByOne}
+use Rattle.octets.specs.Parts.{oneByOne}
 use Rattle.octets.specs.Sums.{total}
 use Rattle.octets.proofs.Numbers.{part-bytes}
 use Rattle.octets.proofs.Parts.{part-is, length-part, one-by-one, chunk}
@@ -19,7 +19,7 @@ use Rattle.packet.specs.Frames.{lengthOf, unitOf, sumOf, frameTests, headerTest
 use Rattle.packet.specs.Headers.{headerOf, headBytes, tailBytes, packetBytes}
 use Rattle.unit.specs.Units.{judgedUnder}
 use Rattle.packet.specs.Frames.{commandOf}
-use Rattle.verdict.specs.Orders.{inOrder, good, isGood}
+use Rattle.verdict.specs.Orders.{inOrder, isGood}
 use Rattle.verdict.proofs.Order.{good-held}
 use Rattle.output.proofs.Filling.{head-long}
 

@@ -1,17 +1,15 @@
 -- A packet's head and tail put around the unit that stands in the output are the packet put at once. Assumes nothing.
 use Prim.Native.Nat.{ℕ, _+_, _-_, _%_, _≤_}
-use native.Mathlib.Nat.{zero-add}
 use native.Mathlib.Omega.{arith}
-use mathlib.Core.List.{List, [], _∷_, _++_, append-assoc}
-use mathlib.Core.Path.{_≡_, refl, sym, ap, _∙_}
-use lib.ListN.{length, getD, take, drop, length-append, length-drop, length-take, take-append-drop}
-use lib.Seq.{take-all, take-append-add, drop-append-le, drop-drop, drop-at}
+use mathlib.Core.List.{List, [], _∷_, _++_}
+use mathlib.Core.Path.{_≡_, sym, ap, _∙_}
+use lib.ListN.{length, getD, take, drop, length-append, length-drop}
+use lib.Seq.{take-all, take-append-add, drop-append-le, drop-at}
 use Rattle.label.specs.Times.{labelBytes}
 use Rattle.octets.specs.Numbers.{bytesOf}
 use Rattle.octets.specs.Parts.{part, putAt, oneByOne}
 use Rattle.octets.specs.Sums.{total}
-use Rattle.octets.proofs.Numbers.{length-bytes}
-use Rattle.octets.proofs.Parts.{part-is, length-part, put-is, put-put, put-from, length-put, one-by-one}
+use Rattle.octets.proofs.Parts.{part-is, length-part, put-put, put-same, put-from, length-put, one-by-one}
 use Rattle.packet.specs.declared.Header.{Header}
 use Rattle.packet.specs.Headers.{headBytes, tailBytes, packetBytes}
 
@@ -40,16 +38,6 @@ head-is h l s k t es ek et a b =
     ∙ ap (spelt h (bytesOf 2 (h .serial)) (bytesOf 2 l)) et
     ∙ ap (λ (x : List ℕ). front (x ++ (oneByOne (h .destination) 0 6 ++ (bytesOf 2 l ++ (h .command ∷ []))))) (six (h .source) a)
     ∙ ap (λ (x : List ℕ). front (h .source ++ (x ++ (bytesOf 2 l ++ (h .command ∷ []))))) (six (h .destination) b)
-
--- bytes put where they stand change nothing
-pub put-same : (o : List ℕ) (at : ℕ) (x : List ℕ) → at + length x ≤ length o → x ≡ take (length x) (drop at o) → putAt o at x ≡ o
-put-same o at x fits e =
-    put-is o at x fits
-    ∙ ap (λ (y : List ℕ). take at o ++ y ++ drop (at + length x) o) e
-    ∙ ap (λ (y : List ℕ). take at o ++ take (length x) (drop at o) ++ y) (sym (drop-drop (length x) at o))
-    ∙ append-assoc (take at o) (take (length x) (drop at o)) (drop (length x) (drop at o))
-    ∙ ap (λ (y : List ℕ). take at o ++ y) (take-append-drop (length x) (drop at o))
-    ∙ take-append-drop at o
 
 module _ (o : List ℕ) (h : Header) (l : ℕ) (few : l ≤ 1024) (room : 30 + l ≤ length o) (hd : List ℕ) (head : hd ≡ headBytes h l) (long : length hd ≡ 27) where
   u : List ℕ

@@ -2,8 +2,8 @@
 -- write is accepted and reads back as the same fields and unit. Assumes nothing.
 use Prim.Native.Nat.{ℕ, _+_, _-_, _≤_}
 use native.Mathlib.Omega.{arith}
-use mathlib.Core.Bool.{true, cond}
-use mathlib.Core.List.{List, [], _∷_, _++_, append-nil}
+use mathlib.Core.Bool.{true}
+use mathlib.Core.List.{List, _++_, append-nil}
 use mathlib.Core.Path.{_≡_, refl, sym, ap, _∙_}
 use borrow.Author.Tests.{le-leb}
 use lib.ListN.{length, take, drop, drop-of-length-le}
@@ -19,7 +19,7 @@ use Rattle.packet.specs.Frames.{lengthOf, commandOf, unitOf, isCommand, frameTe
 use Rattle.packet.specs.Headers.{headerOf, packetBytes, openedPacket}
 use Rattle.unit.specs.Units.{judgedUnder}
 use Rattle.verdict.specs.declared.Verdict.{Verdict}
-use Rattle.verdict.specs.Orders.{inOrder, good, isGood}
+use Rattle.verdict.specs.Orders.{inOrder, isGood}
 use Rattle.verdict.proofs.Order.{good-held, all-passed}
 use Rattle.output.specs.Writing.{roomTests, fieldTests, packetVerdict, writtenPacket}
 use Rattle.output.proofs.Judging.{packet-roomy, sealed}

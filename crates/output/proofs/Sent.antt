@@ -1,6 +1,6 @@
 -- "A packet we write reads back as the same fields": the frame of a packet made of a header and a unit is good, and says both.
 -- Assumes nothing.
-use Prim.Native.Nat.{ℕ, suc, _+_, _-_, _%_, _^_, _≤_, _<_}
+use Prim.Native.Nat.{ℕ, _+_, _-_, _%_, _≤_, _<_}
 use native.Mathlib.Omega.{arith}
 use mathlib.Core.Bool.{true, and-eq-true-iff}
 use mathlib.Core.List.{List, [], _∷_, _++_, append-assoc}
@@ -12,7 +12,7 @@ use lib.Seq.{take-at, take-append-add, drop-append-le, getD-append-add, drop-at}
 use Rattle.kinds.specs.declared.Row.{Row}
 use Rattle.label.specs.declared.Label.{Label}
 use Rattle.label.specs.Times.{labelOf, labelBytes, judged, allowed}
-use Rattle.octets.specs.Numbers.{lowFirst, bytesOf}
+use Rattle.octets.specs.Numbers.{bytesOf}
 use Rattle.octets.specs.Parts.{part, oneByOne}
 use Rattle.octets.specs.Sums.{total}
 use Rattle.octets.proofs.Numbers.{bytes-low}

@@ -13,7 +13,7 @@ use Rattle.packet.specs.Frames.{isCommand}
 use Rattle.packet.specs.Headers.{packetBytes}
 use Rattle.unit.specs.Units.{judgedUnder}
 use Rattle.verdict.specs.declared.Verdict.{Verdict}
-use Rattle.verdict.specs.Orders.{Test, _or-else_, inOrder, good, isGood}
+use Rattle.verdict.specs.Orders.{Test, _or-else_, inOrder, isGood}
 use Rattle.verdict.specs.Refusals.{LENGTH, ROOM, COMMAND, TIME}
 
 -- "LENGTH: L over 1,024", "ROOM: .. output shorter than what is written"

@@ -1,7 +1,7 @@
 -- The judge of a packet (document 01, "Packet", "Orders"; 001, 6.6). The document counts a packet's bytes from 1, a list's places from 0.
 -- Assumes nothing.
 use Prim.Native.Nat.{ℕ, _+_, _%_}
-use mathlib.Core.Bool.{Bool, _&&_, cond}
+use mathlib.Core.Bool.{Bool, _&&_}
 use mathlib.Core.List.{List, [], _∷_}
 use lib.Dec.{leb, eqb}
 use lib.ListN.{length, getD, take, drop}
@@ -13,7 +13,7 @@ use Rattle.octets.specs.Sums.{total}
 use Rattle.unit.specs.Units.{judgedUnder}
 use Rattle.verdict.specs.declared.Verdict.{Verdict}
 use Rattle.verdict.specs.declared.Part.{Part}
-use Rattle.verdict.specs.Orders.{Test, _or-else_, inOrder, good, isGood, partBy}
+use Rattle.verdict.specs.Orders.{Test, _or-else_, inOrder, partBy}
 use Rattle.verdict.specs.Refusals.{CUT, START, LENGTH, END, SUM, VERSION, COMMAND, TIME}
 
 -- "25-26: L, length of the unit"

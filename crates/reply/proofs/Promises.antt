@@ -1,9 +1,8 @@
 -- A reply is itself an accepted packet, and no reply is due to one. Assumes nothing.
-use Prim.Native.Nat.{ℕ, _≤_}
-use native.Mathlib.Omega.{arith}
+use Prim.Native.Nat.{ℕ}
 use mathlib.Core.Bool.{Bool, true, false, cond, false≢true}
 use mathlib.Core.List.{List, []}
-use mathlib.Core.Path.{_≡_, refl, sym, ap, _∙_}
+use mathlib.Core.Path.{_≡_, refl, ap, _∙_}
 use lib.Dec.{lit≤}
 use Rattle.kinds.specs.declared.Row.{Row}
 use Rattle.label.specs.declared.Label.{Label}
@@ -18,7 +17,7 @@ use Rattle.unit.specs.Units.{judgedUnder}
 use Rattle.verdict.specs.Orders.{inOrder, good, isGood}
 use Rattle.reply.specs.declared.Due.{Due}
 use Rattle.reply.specs.declared.Due.the-variants.{Nothing, Confirm, Deny}
-use Rattle.reply.specs.Replies.{toGood, toRefused, dueTo, commandFor, isDue, replyHeader, replyBytes}
+use Rattle.reply.specs.Replies.{toGood, toRefused, dueTo, isDue, replyHeader, replyBytes}
 
 -- to a confirm, an answer or a denial no reply is due, whatever the judge says of it
 pub none-to : (rs : List Row) (p : List ℕ) (c : ℕ) → commandOf p ≡ c → toGood c ≡ Nothing → toRefused c ≡ Nothing → dueTo rs p ≡ Nothing

@@ -6,7 +6,7 @@ use mathlib.Core.Path.{_≡_, refl, sym, ap, _∙_}
 use mathlib.Core.List.{List, [], _∷_, map}
 use borrow.Author.Tests.{eqb-true}
 use lib.Dec.{eqb}
-use lib.ListN.{length, getD, List·getD-map, List·getD-eq-default}
+use lib.ListN.{getD, List·getD-map, List·getD-eq-default}
 use Rattle.octets.specs.Searches.{firstFit, anyFits}
 use Rattle.octets.proofs.Searches.{all-fit}
 use Rattle.octets.proofs.Rows.{getD-inside}

@@ -1,7 +1,7 @@
 -- Document 01, "Refusal numbers": each number under its name, and each name as the bytes that the listing prints.
 -- Assumes nothing.
 use Prim.Native.Nat.{ℕ, _-_}
-use Prim.Native.Char.{Char, code}
+use Prim.Native.Char.{code}
 use Prim.Native.String.{String}
 use mathlib.Core.List.{List, [], _∷_, _++_, map}
 use lib.ListN.{length, getD, replicate}

@@ -1,15 +1,14 @@
 -- `octets::bits` meets its contract: from zero on the number itself, below it 65,535 less what is missing to minus one.
 -- Assumes nothing.
 use native.Mathlib.Omega.{arith}
-use Prim.Native.Nat.{ℕ, _≤_, _<_, _-_}
-use mathlib.Core.Bool.{true, false}
-use mathlib.Core.Path.{_≡_, sym, subst, _∙_, ap}
+use Prim.Native.Nat.{_<_, _-_}
+use mathlib.Core.Path.{_≡_, _∙_, ap}
 use lib.Dec.{T}
 use lib.IntN.{ℤ, pos, negsuc, natAbs, _-ℤ_}
-use lib.Signed.{mag, leZ, nonNeg}
+use lib.Signed.{mag, nonNeg}
 use mir.Facts.{toZ-pos, toZ-ofZ, fits-natAbs}
 use mir.Syntax.{w16}
-use mir.Val.{SFits, Fits, toZ, ofZ}
+use mir.Val.{toZ, ofZ}
 use Rattle.octets.specs.Numbers.{bitsOf}
 use Rattle.octets.proofs.Signs.{bits-pos, bits-neg}
 use Rattle.octets.proofs.bits.Statement.{statement}

@@ -4,42 +4,16 @@ use mathlib.Core.Path.{sym}
 use Rattle.octets.proofs.Parts.{part-is, place-is, no-part, past-end, reversed}
 use Rattle.octets.proofs.part_of.Statement.{statement}
 use Rattle.octets.proofs.part_of.Tie as tie
-use Rattle.octets.proofs.part_of.Reads as reads
-use Rattle.octets.proofs.part_of.Lts as lts
-
-sub-result : tie.Need-sub-result
-sub-result c = search needs
-
-part-result-start : tie.Need-part-result-start
-part-result-start c = search needs
-
-part-result-end : tie.Need-part-result-end
-part-result-end c = search needs
 
 returns : tie.Need-returns
 returns c =
     let a = c .before .before .args in
     no-part (a .s .now) (a .from) (a .to) (past-end (a .s .now) (a .from) (a .to) (c .before .if1 .taken)) (a .s .ptr)
 
-sub-result-2 : tie.Need-sub-result-2
-sub-result-2 c = search needs
-
-part-result-start-2 : tie.Need-part-result-start-2
-part-result-start-2 c = search needs
-
-part-result-end-2 : tie.Need-part-result-end-2
-part-result-end-2 c = search needs
-
 returns-2 : tie.Need-returns-2
 returns-2 c =
     let a = c .before .before .before .args in
     no-part (a .s .now) (a .from) (a .to) (reversed (a .s .now) (a .from) (a .to) (c .before .before .if1 .left) (c .before .if2 .taken)) (a .s .ptr)
-
-part-result-start-3 : tie.Need-part-result-start-3
-part-result-start-3 c = search needs
-
-part-result-end-3 : tie.Need-part-result-end-3
-part-result-end-3 c = search needs
 
 returns-3 : tie.Need-returns-3
 returns-3 c =
@@ -52,14 +26,14 @@ pub part-of-spec : {M : Type 1} → statement M
 part-of-spec =
     tie.close
     (tie.spec
-    sub-result
-    part-result-start
-    part-result-end
+    (λ c. search needs)
+    (λ c. search needs)
+    (λ c. search needs)
     returns
-    sub-result-2
-    part-result-start-2
-    part-result-end-2
+    (λ c. search needs)
+    (λ c. search needs)
+    (λ c. search needs)
     returns-2
-    part-result-start-3
-    part-result-end-3
+    (λ c. search needs)
+    (λ c. search needs)
     returns-3)

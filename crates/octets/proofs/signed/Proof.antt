@@ -1,10 +1,10 @@
 -- `octets::signed` meets its contract: below 32,768 the number itself, else minus one less what is left to 65,535.
 -- Assumes nothing.
 use borrow.Author.Needs.{needs}
-use mathlib.Core.Path.{sym, subst, _∙_, ap}
+use mathlib.Core.Path.{sym, subst, _∙_}
 use mir.Facts.{toZ-pos, toZ-ofZ}
 use mir.Syntax.{w16}
-use mir.Val.{SFits, toZ, ofZ}
+use mir.Val.{SFits}
 use Rattle.octets.proofs.Signs.{signed-low, signed-turned, signed-fits}
 use Rattle.octets.proofs.signed.Statement.{statement}
 use Rattle.octets.proofs.signed.Tie as tie

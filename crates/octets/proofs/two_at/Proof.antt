@@ -1,7 +1,6 @@
 -- `octets::two_at` meets its contract by `low-two`. Assumes nothing.
 use borrow.Author.Needs.{needs}
-use native.Mathlib.Omega.{arith}
-use mathlib.Core.Path.{_≡_, sym}
+use mathlib.Core.Path.{sym}
 use Rattle.octets.proofs.Numbers.{low-two, low-behind}
 use Rattle.octets.proofs.two_at.Statement.{statement}
 use Rattle.octets.proofs.two_at.Tie as tie

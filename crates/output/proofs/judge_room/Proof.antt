@@ -4,28 +4,12 @@ use Rattle.output.proofs.Judging.{length-over, no-room, room}
 use borrow.Author.Needs.{needs}
 use Rattle.output.proofs.judge_room.Statement.{statement}
 use Rattle.output.proofs.judge_room.Tie as tie
-use Rattle.output.proofs.judge_room.Reads as reads
-use Rattle.output.proofs.judge_room.Lts as lts
-use Rattle.verdict.proofs.Verdict.good.Reads as good-reads
-use Rattle.verdict.proofs.Verdict.refused.Reads as refused-reads
-
-refused-requires : tie.Need-refused-requires
-refused-requires c κs = search needs
 
 returns : tie.Need-returns
 returns c = c .refused .ensures ∙ length-over (c .before .before .before .args .out .now) (c .before .before .before .args .length) (c .before .before .before .args .beside) (c .before .if1 .taken)
 
-add-if2 : tie.Need-add-if2
-add-if2 c = search needs
-
-refused-requires-2 : tie.Need-refused-requires-2
-refused-requires-2 c κs = search needs
-
 returns-2 : tie.Need-returns-2
 returns-2 c = c .refused2 .ensures ∙ no-room (c .before .before .before .before .args .out .now) (c .before .before .before .before .args .length) (c .before .before .before .before .args .beside) (c .before .before .if1 .left) (c .before .if2 .taken)
-
-good-requires : tie.Need-good-requires
-good-requires c κs = search needs
 
 returns-3 : tie.Need-returns-3
 returns-3 c = c .good2 .ensures ∙ room (c .before .before .before .before .args .out .now) (c .before .before .before .before .args .length) (c .before .before .before .before .args .beside) (c .before .before .if1 .left) (c .before .if2 .left)
@@ -34,10 +18,10 @@ pub judge-room-spec : {M : Type 1} → statement M
 judge-room-spec =
     tie.close
     (tie.spec
-    refused-requires
+    (λ c κs. search needs)
     returns
-    add-if2
-    refused-requires-2
+    (λ c. search needs)
+    (λ c κs. search needs)
     returns-2
-    good-requires
+    (λ c κs. search needs)
     returns-3)

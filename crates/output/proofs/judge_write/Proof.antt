@@ -9,53 +9,21 @@ use Rattle.output.proofs.Judging.{room-decides, roomy, command-low, com
 use borrow.Author.Needs.{needs}
 use Rattle.output.proofs.judge_write.Statement.{statement}
 use Rattle.output.proofs.judge_write.Tie as tie
-use Rattle.output.proofs.judge_write.Reads as reads
-use Rattle.output.proofs.judge_write.Lts as lts
-use Rattle.label.proofs.Label.is_allowed.Reads as is-allowed-reads
-use Rattle.octets.proofs.part_of.Reads as part-of-reads
-use Rattle.output.proofs.judge_room.Reads as judge-room-reads
-use Rattle.unit.proofs.judge_under.Reads as judge-under-reads
-use Rattle.verdict.proofs.Verdict.is_good.Reads as is-good-reads
-use Rattle.verdict.proofs.Verdict.refused.Reads as refused-reads
-
-judge-room-requires : tie.Need-judge-room-requires
-judge-room-requires c κs = search needs
-
-is-good-requires : tie.Need-is-good-requires
-is-good-requires c κs = search needs
 
 returns : tie.Need-returns
 returns c = room-decides rows (c .before .before .before .before .args .out .now) (c .before .before .before .before .args .header) (c .before .before .before .before .args .length) (c .before .before .judge-room .result) (c .before .before .judge-room .ensures) (off (c .before .is-good .ensures) (c .if1 .taken))
 
-refused-requires : tie.Need-refused-requires
-refused-requires c κs = search needs
-
 returns-2 : tie.Need-returns-2
 returns-2 c = c .refused .ensures ∙ command-low rows (c .before .before .before .before .before .before .args .out .now) (c .before .before .before .before .before .before .args .header) (c .before .before .before .before .before .before .args .length) (ap isGood (sym (c .before .before .before .before .judge-room .ensures)) ∙ on (c .before .before .before .is-good .ensures) (c .before .before .if1 .left)) (c .before .if2 .taken)
 
-refused-requires-2 : tie.Need-refused-requires-2
-refused-requires-2 c κs = search needs
-
 returns-3 : tie.Need-returns-3
 returns-3 c = c .refused2 .ensures ∙ command-high rows (c .before .before .before .before .before .before .before .args .out .now) (c .before .before .before .before .before .before .before .args .header) (c .before .before .before .before .before .before .before .args .length) (ap isGood (sym (c .before .before .before .before .before .judge-room .ensures)) ∙ on (c .before .before .before .before .is-good .ensures) (c .before .before .before .if1 .left)) (c .before .before .if2 .left) (c .before .if3 .taken)
-
-is-allowed-requires : tie.Need-is-allowed-requires
-is-allowed-requires c κs = search needs
-
-refused-requires-3 : tie.Need-refused-requires-3
-refused-requires-3 c κs = search needs
 
 returns-4 : tie.Need-returns-4
 returns-4 c = c .refused3 .ensures ∙ bad-time rows (c .before .before .before .before .before .before .before .before .before .before .args .out .now) (c .before .before .before .before .before .before .before .before .before .before .args .header) (c .before .before .before .before .before .before .before .before .before .before .args .length) (ap isGood (sym (c .before .before .before .before .before .before .before .before .judge-room .ensures)) ∙ on (c .before .before .before .before .before .before .before .is-good .ensures) (c .before .before .before .before .before .before .if1 .left)) (c .before .before .before .before .before .if2 .left) (c .before .before .before .before .if3 .left) (off (c .before .before .is-allowed .ensures) (c .before .if4 .taken))
 
 add-part-of : tie.Need-add-part-of
 add-part-of c = omega (arith, roomy (c .before .before .before .before .before .before .before .before .before .args .out .now) (c .before .before .before .before .before .before .before .before .before .args .length) 30 (ap isGood (sym (c .before .before .before .before .before .before .before .judge-room .ensures)) ∙ on (c .before .before .before .before .before .before .is-good .ensures) (c .before .before .before .before .before .if1 .left)) .0)
-
-part-of-requires : tie.Need-part-of-requires
-part-of-requires c κs = search needs
-
-judge-under-requires : tie.Need-judge-under-requires
-judge-under-requires c κs = search needs
 
 returns-5 : tie.Need-returns-5
 returns-5 c =
@@ -66,17 +34,17 @@ pub judge-write-spec : {M : Type 1} → statement M
 judge-write-spec =
     tie.close
     (tie.spec
-    judge-room-requires
-    is-good-requires
+    (λ c κs. search needs)
+    (λ c κs. search needs)
     returns
-    refused-requires
+    (λ c κs. search needs)
     returns-2
-    refused-requires-2
+    (λ c κs. search needs)
     returns-3
-    is-allowed-requires
-    refused-requires-3
+    (λ c κs. search needs)
+    (λ c κs. search needs)
     returns-4
     add-part-of
-    part-of-requires
-    judge-under-requires
+    (λ c κs. search needs)
+    (λ c κs. search needs)
     returns-5)

@@ -9,20 +9,6 @@ use Rattle.output.proofs.Lending.{object-refused, object-verdict, objec
 use borrow.Author.Needs.{needs}
 use Rattle.output.proofs.write_object.Statement.{statement}
 use Rattle.output.proofs.write_object.Tie as tie
-use Rattle.output.proofs.write_object.Reads as reads
-use Rattle.output.proofs.write_object.Lts as lts
-use Rattle.objects.proofs.write.Reads as write-reads
-use Rattle.output.proofs.judge_room.Reads as judge-room-reads
-use Rattle.verdict.proofs.Verdict.is_good.Reads as is-good-reads
-
-judge-room-requires : tie.Need-judge-room-requires
-judge-room-requires c κs = search needs
-
-is-good-requires : tie.Need-is-good-requires
-is-good-requires c κs = search needs
-
-same-length : tie.Need-same-length
-same-length c = search needs
 
 returns : tie.Need-returns
 returns c =
@@ -32,20 +18,8 @@ returns c =
 add-end : tie.Need-add-end
 add-end c = omega (arith, roomy (c .before .before .before .before .before .before .args .out .now) (c .before .before .before .before .before .before .args .length) 27 (ap isGood (sym (c .before .before .judge-room .ensures)) ∙ on (c .before .is-good .ensures) (c .if1 .left)) .0)
 
-sub-write : tie.Need-sub-write
-sub-write c = search needs
-
-part-write-start : tie.Need-part-write-start
-part-write-start c = search needs
-
 part-write-end : tie.Need-part-write-end
 part-write-end c = omega (arith, roomy (c .before .before .before .before .before .before .args .out .now) (c .before .before .before .before .before .before .args .length) 27 (ap isGood (sym (c .before .before .judge-room .ensures)) ∙ on (c .before .is-good .ensures) (c .if1 .left)) .1)
-
-write-requires : tie.Need-write-requires
-write-requires c κs = search needs
-
-same-length-2 : tie.Need-same-length-2
-same-length-2 c = search needs
 
 returns-2 : tie.Need-returns-2
 returns-2 c = (object-verdict rows (c .before .before .before .before .before .before .before .before .before .before .args .out .now) (c .before .before .before .before .before .before .before .before .before .before .args .length) (c .before .before .before .before .before .before .before .before .before .before .args .number) (c .before .before .before .before .before .before .before .before .before .before .args .fields) (c .before .before .before .before .before .before .before .before .before .before .args .description .now) (ap isGood (sym (c .before .before .before .before .before .before .judge-room .ensures)) ∙ on (c .before .before .before .before .before .is-good .ensures) (c .before .before .before .before .if1 .left)) (c .before .before .write .result) (c .before .before .write .ensures .0), object-home rows (c .before .before .before .before .before .before .before .before .before .before .args .out .now) (c .before .before .before .before .before .before .before .before .before .before .args .length) (c .before .before .before .before .before .before .before .before .before .before .args .number) (c .before .before .before .before .before .before .before .before .before .before .args .fields) (c .before .before .before .before .before .before .before .before .before .before .args .description .now) (ap isGood (sym (c .before .before .before .before .before .before .judge-room .ensures)) ∙ on (c .before .before .before .before .before .is-good .ensures) (c .before .before .before .before .if1 .left)) (c .before .before .write .last .0) (c .before .before .write .ensures .1))
@@ -54,14 +28,14 @@ pub write-object-spec : {M : Type 1} → statement M
 write-object-spec =
     tie.close
     (tie.spec
-    judge-room-requires
-    is-good-requires
-    same-length
+    (λ c κs. search needs)
+    (λ c κs. search needs)
+    (λ c. search needs)
     returns
     add-end
-    sub-write
-    part-write-start
+    (λ c. search needs)
+    (λ c. search needs)
     part-write-end
-    write-requires
-    same-length-2
+    (λ c κs. search needs)
+    (λ c. search needs)
     returns-2)

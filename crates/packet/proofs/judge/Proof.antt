@@ -7,23 +7,9 @@ use Rattle.packet.proofs.Contents.{frame-decides, content-decides}
 use borrow.Author.Needs.{needs}
 use Rattle.packet.proofs.judge.Statement.{statement}
 use Rattle.packet.proofs.judge.Tie as tie
-use Rattle.packet.proofs.judge.Reads as reads
-use Rattle.packet.proofs.judge.Lts as lts
-use Rattle.packet.proofs.judge_content.Reads as judge-content-reads
-use Rattle.packet.proofs.judge_frame.Reads as judge-frame-reads
-use Rattle.verdict.proofs.Verdict.is_good.Reads as is-good-reads
-
-judge-frame-requires : tie.Need-judge-frame-requires
-judge-frame-requires c κs = search needs
-
-is-good-requires : tie.Need-is-good-requires
-is-good-requires c κs = search needs
 
 returns : tie.Need-returns
 returns c = frame-decides rows (c .before .before .before .before .args .p .now) (c .before .before .judge-frame .result) (c .before .before .judge-frame .ensures) (off (c .before .is-good .ensures) (c .if1 .taken))
-
-judge-content-requires : tie.Need-judge-content-requires
-judge-content-requires c κs = search needs
 
 returns-2 : tie.Need-returns-2
 returns-2 c = c .judge-content .ensures ∙ content-decides rows (c .before .before .before .before .before .args .p .now) (ap isGood (sym (c .before .before .before .judge-frame .ensures)) ∙ on (c .before .before .is-good .ensures) (c .before .if1 .left))
@@ -31,4 +17,4 @@ returns-2 c = c .judge-content .ensures ∙ content-decides rows (c .before .bef
 pub judge-spec : {M : Type 1} → statement M
 judge-spec =
     tie.close
-    (tie.spec judge-frame-requires is-good-requires returns judge-content-requires returns-2)
+    (tie.spec (λ c κs. search needs) (λ c κs. search needs) returns (λ c κs. search needs) returns-2)

@@ -13,63 +13,18 @@ use Rattle.packet.proofs.Contents.{another-version, command-low, comman
 use borrow.Author.Needs.{needs}
 use Rattle.packet.proofs.judge_content.Statement.{statement}
 use Rattle.packet.proofs.judge_content.Tie as tie
-use Rattle.packet.proofs.judge_content.Reads as reads
-use Rattle.packet.proofs.judge_content.Lts as lts
-use Rattle.label.proofs.Label.is_allowed.Reads as is-allowed-reads
-use Rattle.label.proofs.Label.read_at.Reads as read-at-reads
-use Rattle.octets.proofs.byte_at.Reads as byte-at-reads
-use Rattle.octets.proofs.part_of.Reads as part-of-reads
-use Rattle.packet.proofs.length_of.Reads as length-of-reads
-use Rattle.unit.proofs.judge_under.Reads as judge-under-reads
-use Rattle.verdict.proofs.Verdict.refused.Reads as refused-reads
-
-byte-at-requires : tie.Need-byte-at-requires
-byte-at-requires c κs = search needs
-
-refused-requires : tie.Need-refused-requires
-refused-requires c κs = search needs
 
 returns : tie.Need-returns
 returns c = c .refused .ensures ∙ another-version rows (c .before .before .before .before .args .p .now) (λ e. c .before .if1 .taken (c .before .before .byte-at .ensures ∙ e))
 
-byte-at-requires-2 : tie.Need-byte-at-requires-2
-byte-at-requires-2 c κs = search needs
-
-refused-requires-2 : tie.Need-refused-requires-2
-refused-requires-2 c κs = search needs
-
 returns-2 : tie.Need-returns-2
 returns-2 c = c .refused2 .ensures ∙ command-low rows (c .before .before .before .before .before .before .args .p .now) (sym (c .before .before .before .before .byte-at .ensures) ∙ c .before .before .before .if1 .left) (omega (arith, c .before .before .byte-at2 .ensures, c .before .if2 .taken))
-
-refused-requires-3 : tie.Need-refused-requires-3
-refused-requires-3 c κs = search needs
 
 returns-3 : tie.Need-returns-3
 returns-3 c = c .refused3 .ensures ∙ command-high rows (c .before .before .before .before .before .before .before .args .p .now) (sym (c .before .before .before .before .before .byte-at .ensures) ∙ c .before .before .before .before .if1 .left) (omega (arith, c .before .before .before .byte-at2 .ensures, c .before .before .if2 .left)) (omega (arith, c .before .before .before .byte-at2 .ensures, c .before .if3 .taken))
 
-read-at-requires : tie.Need-read-at-requires
-read-at-requires c κs = search needs
-
-is-allowed-requires : tie.Need-is-allowed-requires
-is-allowed-requires c κs = search needs
-
-refused-requires-4 : tie.Need-refused-requires-4
-refused-requires-4 c κs = search needs
-
 returns-4 : tie.Need-returns-4
 returns-4 c = c .refused4 .ensures ∙ bad-time rows (c .before .before .before .before .before .before .before .before .before .before .args .p .now) (sym (c .before .before .before .before .before .before .before .before .byte-at .ensures) ∙ c .before .before .before .before .before .before .before .if1 .left) (omega (arith, c .before .before .before .before .before .before .byte-at2 .ensures, c .before .before .before .before .before .if2 .left)) (omega (arith, c .before .before .before .before .before .before .byte-at2 .ensures, c .before .before .before .before .if3 .left)) (off (c .before .before .is-allowed .ensures ∙ ap (λ (l : Label). allowed (judged l)) (c .before .before .before .read-at .ensures)) (c .before .if4 .taken))
-
-length-of-requires : tie.Need-length-of-requires
-length-of-requires c κs = search needs
-
-add-part-of : tie.Need-add-part-of
-add-part-of c = search needs
-
-part-of-requires : tie.Need-part-of-requires
-part-of-requires c κs = search needs
-
-judge-under-requires : tie.Need-judge-under-requires
-judge-under-requires c κs = search needs
 
 returns-5 : tie.Need-returns-5
 returns-5 c =
@@ -83,20 +38,20 @@ pub judge-content-spec : {M : Type 1} → statement M
 judge-content-spec =
     tie.close
     (tie.spec
-    byte-at-requires
-    refused-requires
+    (λ c κs. search needs)
+    (λ c κs. search needs)
     returns
-    byte-at-requires-2
-    refused-requires-2
+    (λ c κs. search needs)
+    (λ c κs. search needs)
     returns-2
-    refused-requires-3
+    (λ c κs. search needs)
     returns-3
-    read-at-requires
-    is-allowed-requires
-    refused-requires-4
+    (λ c κs. search needs)
+    (λ c κs. search needs)
+    (λ c κs. search needs)
     returns-4
-    length-of-requires
-    add-part-of
-    part-of-requires
-    judge-under-requires
+    (λ c κs. search needs)
+    (λ c. search needs)
+    (λ c κs. search needs)
+    (λ c κs. search needs)
     returns-5)

@@ -4,16 +4,6 @@ use Rattle.verdict.specs.Orders.{partIn, placeIn}
 use borrow.Author.Needs.{needs}
 use Rattle.packet.proofs.unit_of.Statement.{statement}
 use Rattle.packet.proofs.unit_of.Tie as tie
-use Rattle.packet.proofs.unit_of.Reads as reads
-use Rattle.packet.proofs.unit_of.Lts as lts
-use Rattle.octets.proofs.part_of.Reads as part-of-reads
-use Rattle.packet.proofs.unit_place.Reads as unit-place-reads
-
-unit-place-requires : tie.Need-unit-place-requires
-unit-place-requires c κs = search needs
-
-part-of-requires : tie.Need-part-of-requires
-part-of-requires c κs = search needs
 
 returns : tie.Need-returns
 returns c =
@@ -23,4 +13,4 @@ returns c =
     )
 
 pub unit-of-spec : {M : Type 1} → statement M
-unit-of-spec = tie.close (tie.spec unit-place-requires part-of-requires returns)
+unit-of-spec = tie.close (tie.spec (λ c κs. search needs) (λ c κs. search needs) returns)

@@ -9,73 +9,26 @@ use Rattle.reply.proofs.Answering.{frame-refuses, not-due, bad-label, n
 use borrow.Author.Needs.{needs}
 use Rattle.reply.proofs.answer_to.Statement.{statement}
 use Rattle.reply.proofs.answer_to.Tie as tie
-use Rattle.reply.proofs.answer_to.Reads as reads
-use Rattle.reply.proofs.answer_to.Lts as lts
-use Rattle.label.proofs.Label.is_allowed.Reads as is-allowed-reads
-use Rattle.output.proofs.write.Reads as write-reads
-use Rattle.packet.proofs.judge_frame.Reads as judge-frame-reads
-use Rattle.reply.proofs.command_for.Reads as command-for-reads
-use Rattle.reply.proofs.due_to.Reads as due-to-reads
-use Rattle.reply.proofs.header_for.Reads as header-for-reads
-use Rattle.verdict.proofs.Verdict.good.Reads as good-reads
-use Rattle.verdict.proofs.Verdict.is_good.Reads as is-good-reads
-use Rattle.verdict.proofs.Verdict.refused.Reads as refused-reads
-
-judge-frame-requires : tie.Need-judge-frame-requires
-judge-frame-requires c κs = search needs
-
-is-good-requires : tie.Need-is-good-requires
-is-good-requires c κs = search needs
 
 returns : tie.Need-returns
 returns c =
     let s = frame-refuses rows (c .before .before .before .before .before .args .p .now) (c .before .before .before .before .before .args .label) (c .before .before .before .before .before .args .out .now) (c .before .before .judge-frame .result) (c .before .before .judge-frame .ensures) (off (c .before .is-good .ensures) (c .if1 .taken)) in
     (s .0, s .1)
 
-due-to-requires : tie.Need-due-to-requires
-due-to-requires c κs = search needs
-
-command-for-requires : tie.Need-command-for-requires
-command-for-requires c κs = search needs
-
-good-requires : tie.Need-good-requires
-good-requires c κs = search needs
-
 returns-2 : tie.Need-returns-2
 returns-2 c =
     let s = not-due rows (c .before .before .before .before .before .before .before .before .before .args .p .now) (c .before .before .before .before .before .before .before .before .before .args .label) (c .before .before .before .before .before .before .before .before .before .args .out .now) (ap isGood (sym (c .before .before .before .before .before .before .judge-frame .ensures)) ∙ on (c .before .before .before .before .before .is-good .ensures) (c .before .before .before .before .if1 .left)) (c .before .before .before .due-to .result) (c .before .before .before .due-to .ensures) (c .good2 .result) (sym (c .before .before .command-for .ensures) ∙ c .before .if2 .taken) (c .good2 .ensures) in
     (s .0, s .1)
-
-is-allowed-requires : tie.Need-is-allowed-requires
-is-allowed-requires c κs = search needs
-
-refused-requires : tie.Need-refused-requires
-refused-requires c κs = search needs
 
 returns-3 : tie.Need-returns-3
 returns-3 c =
     let s = bad-label rows (c .before .before .before .before .before .before .before .before .before .before .before .args .p .now) (c .before .before .before .before .before .before .before .before .before .before .before .args .label) (c .before .before .before .before .before .before .before .before .before .before .before .args .out .now) (ap isGood (sym (c .before .before .before .before .before .before .before .before .judge-frame .ensures)) ∙ on (c .before .before .before .before .before .before .before .is-good .ensures) (c .before .before .before .before .before .before .if1 .left)) (c .before .before .before .before .before .due-to .result) (c .before .before .before .before .before .due-to .ensures) (λ e. c .before .before .before .if2 .left (c .before .before .before .before .command-for .ensures ∙ e)) (c .refused .result) (off (c .before .before .is-allowed .ensures) (c .before .if3 .taken)) (c .refused .ensures) in
     (s .0, s .1)
 
-header-for-requires : tie.Need-header-for-requires
-header-for-requires c κs = search needs
-
-write-requires : tie.Need-write-requires
-write-requires c κs = search needs
-
-is-good-requires-2 : tie.Need-is-good-requires-2
-is-good-requires-2 c κs = search needs
-
-same-length : tie.Need-same-length
-same-length c = search needs
-
 returns-4 : tie.Need-returns-4
 returns-4 c =
     let s = no-room rows (c .before .before .before .before .before .before .before .before .before .before .before .before .before .before .before .before .before .args .p .now) (c .before .before .before .before .before .before .before .before .before .before .before .before .before .before .before .before .before .args .label) (c .before .before .before .before .before .before .before .before .before .before .before .before .before .before .before .before .before .args .out .now) (ap isGood (sym (c .before .before .before .before .before .before .before .before .before .before .before .before .before .before .judge-frame .ensures)) ∙ on (c .before .before .before .before .before .before .before .before .before .before .before .before .before .is-good .ensures) (c .before .before .before .before .before .before .before .before .before .before .before .before .if1 .left)) (c .before .before .before .before .before .before .before .before .before .before .before .due-to .result) (c .before .before .before .before .before .before .before .before .before .before .before .due-to .ensures) (λ e. c .before .before .before .before .before .before .before .before .before .if2 .left (c .before .before .before .before .before .before .before .before .before .before .command-for .ensures ∙ e)) (on (c .before .before .before .before .before .before .before .before .is-allowed .ensures) (c .before .before .before .before .before .before .before .if3 .left)) (c .before .before .before .before .before .header-for .result) (c .before .before .before .before .before .header-for .ensures ∙ ap (replyHeader (headerOf (c .before .before .before .before .before .before .before .before .before .before .before .before .before .before .before .before .before .args .p .now)) (c .before .before .before .before .before .before .before .before .before .before .before .before .before .before .before .before .before .args .label)) (c .before .before .before .before .before .before .before .before .before .before .command-for .ensures)) (c .before .before .before .before .write .result) (c .before .before .before .before .write .ensures .0) (c .before .before .before .before .write .last .0) (c .before .before .before .before .write .ensures .1) (off (c .before .is-good2 .ensures) (c .if4 .taken)) in
     (s .0, s .1)
-
-same-length-2 : tie.Need-same-length-2
-same-length-2 c = search needs
 
 returns-5 : tie.Need-returns-5
 returns-5 c =
@@ -86,20 +39,20 @@ pub answer-to-spec : {M : Type 1} → statement M
 answer-to-spec =
     tie.close
     (tie.spec
-    judge-frame-requires
-    is-good-requires
+    (λ c κs. search needs)
+    (λ c κs. search needs)
     returns
-    due-to-requires
-    command-for-requires
-    good-requires
+    (λ c κs. search needs)
+    (λ c κs. search needs)
+    (λ c κs. search needs)
     returns-2
-    is-allowed-requires
-    refused-requires
+    (λ c κs. search needs)
+    (λ c κs. search needs)
     returns-3
-    header-for-requires
-    write-requires
-    is-good-requires-2
-    same-length
+    (λ c κs. search needs)
+    (λ c κs. search needs)
+    (λ c κs. search needs)
+    (λ c. search needs)
     returns-4
-    same-length-2
+    (λ c. search needs)
     returns-5)

@@ -5,15 +5,9 @@ use Rattle.reply.specs.Replies.{replyHeader}
 use borrow.Author.Needs.{needs}
 use Rattle.reply.proofs.header_for.Statement.{statement}
 use Rattle.reply.proofs.header_for.Tie as tie
-use Rattle.reply.proofs.header_for.Reads as reads
-use Rattle.reply.proofs.header_for.Lts as lts
-use Rattle.packet.proofs.header_of.Reads as header-of-reads
-
-header-of-requires : tie.Need-header-of-requires
-header-of-requires c κs = search needs
 
 returns : tie.Need-returns
 returns c = ap (λ (h : Header). replyHeader h (c .before .before .before .before .args .label) (c .before .before .before .before .args .command)) (c .before .before .header-of .ensures)
 
 pub header-for-spec : {M : Type 1} → statement M
-header-for-spec = tie.close (tie.spec header-of-requires returns)
+header-for-spec = tie.close (tie.spec (λ c κs. search needs) returns)

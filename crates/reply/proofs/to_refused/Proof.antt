@@ -2,8 +2,6 @@
 use borrow.Author.Tests.{eq-eqb, ne-eqb}
 use Rattle.reply.proofs.to_refused.Statement.{statement}
 use Rattle.reply.proofs.to_refused.Tie as tie
-use Rattle.reply.proofs.to_refused.Reads as reads
-use Rattle.reply.proofs.to_refused.Lts as lts
 
 returns : tie.Need-returns
 returns c = simp (eq-eqb _ _ (c .if1 .taken))

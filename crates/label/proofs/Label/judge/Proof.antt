@@ -5,43 +5,25 @@ use Rattle.octets.proofs.Flags.{on, off}
 use Rattle.label.proofs.Label.judge.Statement.{statement}
 use Rattle.label.proofs.Label.judge.Tie as tie
 
-within-requires : tie.Need-within-requires
-within-requires c κs = search needs
-
 returns : tie.Need-returns
 unfolding judged inRanges
 returns c = simp (off (c .before .within .ensures) (c .if1 .taken))
-
-within-requires-2 : tie.Need-within-requires-2
-within-requires-2 c κs = search needs
 
 returns-2 : tie.Need-returns-2
 unfolding judged inRanges
 returns-2 c = simp (on (c .before .before .before .within .ensures) (c .before .before .if1 .left), off (c .before .within2 .ensures) (c .if2 .taken))
 
-within-requires-3 : tie.Need-within-requires-3
-within-requires-3 c κs = search needs
-
 returns-3 : tie.Need-returns-3
 unfolding judged inRanges
 returns-3 c = simp (on (c .before .before .before .before .before .within .ensures) (c .before .before .before .before .if1 .left), on (c .before .before .before .within2 .ensures) (c .before .before .if2 .left), off (c .before .within3 .ensures) (c .if3 .taken))
-
-within-requires-4 : tie.Need-within-requires-4
-within-requires-4 c κs = search needs
 
 returns-4 : tie.Need-returns-4
 unfolding judged inRanges
 returns-4 c = simp (on (c .before .before .before .before .before .before .before .within .ensures) (c .before .before .before .before .before .before .if1 .left), on (c .before .before .before .before .before .within2 .ensures) (c .before .before .before .before .if2 .left), on (c .before .before .before .within3 .ensures) (c .before .before .if3 .left), off (c .before .within4 .ensures) (c .if4 .taken))
 
-within-requires-5 : tie.Need-within-requires-5
-within-requires-5 c κs = search needs
-
 returns-5 : tie.Need-returns-5
 unfolding judged inRanges
 returns-5 c = simp (on (c .before .before .before .before .before .before .before .before .before .within .ensures) (c .before .before .before .before .before .before .before .before .if1 .left), on (c .before .before .before .before .before .before .before .within2 .ensures) (c .before .before .before .before .before .before .if2 .left), on (c .before .before .before .before .before .within3 .ensures) (c .before .before .before .before .if3 .left), on (c .before .before .before .within4 .ensures) (c .before .before .if4 .left), off (c .before .within5 .ensures) (c .if5 .taken))
-
-within-requires-6 : tie.Need-within-requires-6
-within-requires-6 c κs = search needs
 
 returns-6 : tie.Need-returns-6
 unfolding judged inRanges
@@ -55,16 +37,16 @@ pub judge-spec : {M : Type 1} → statement M
 judge-spec =
     tie.close
     (tie.spec
-    within-requires
+    (λ c κs. search needs)
     returns
-    within-requires-2
+    (λ c κs. search needs)
     returns-2
-    within-requires-3
+    (λ c κs. search needs)
     returns-3
-    within-requires-4
+    (λ c κs. search needs)
     returns-4
-    within-requires-5
+    (λ c κs. search needs)
     returns-5
-    within-requires-6
+    (λ c κs. search needs)
     returns-6
     returns-7)

@@ -9,39 +9,9 @@ use Rattle.label.specs.Times.{labelOf}
 use Rattle.label.proofs.Laws.{same}
 use Rattle.label.proofs.Label.read_at.Statement.{statement}
 use Rattle.label.proofs.Label.read_at.Tie as tie
-use Rattle.label.proofs.Label.read_at.Reads as reads
-use Rattle.label.proofs.Label.read_at.Lts as lts
-use Rattle.octets.proofs.byte_at.Reads as byte-at-reads
 
 returns : tie.Need-returns
 returns c = ap labelOf (sym (drop-of-length-le (c .before .before .args .s .now) (le-of-lt (c .if1 .taken))))
-
-sub-p : tie.Need-sub-p
-sub-p c = search needs
-
-part-p-start : tie.Need-part-p-start
-part-p-start c = search needs
-
-part-p-end : tie.Need-part-p-end
-part-p-end c = search needs
-
-byte-at-requires : tie.Need-byte-at-requires
-byte-at-requires c κs = search needs
-
-byte-at-requires-2 : tie.Need-byte-at-requires-2
-byte-at-requires-2 c κs = search needs
-
-byte-at-requires-3 : tie.Need-byte-at-requires-3
-byte-at-requires-3 c κs = search needs
-
-byte-at-requires-4 : tie.Need-byte-at-requires-4
-byte-at-requires-4 c κs = search needs
-
-byte-at-requires-5 : tie.Need-byte-at-requires-5
-byte-at-requires-5 c κs = search needs
-
-byte-at-requires-6 : tie.Need-byte-at-requires-6
-byte-at-requires-6 c κs = search needs
 
 returns-2 : tie.Need-returns-2
 returns-2 c =
@@ -55,13 +25,13 @@ read-at-spec =
     tie.close
     (tie.spec
     returns
-    sub-p
-    part-p-start
-    part-p-end
-    byte-at-requires
-    byte-at-requires-2
-    byte-at-requires-3
-    byte-at-requires-4
-    byte-at-requires-5
-    byte-at-requires-6
+    (λ c. search needs)
+    (λ c. search needs)
+    (λ c. search needs)
+    (λ c κs. search needs)
+    (λ c κs. search needs)
+    (λ c κs. search needs)
+    (λ c κs. search needs)
+    (λ c κs. search needs)
+    (λ c κs. search needs)
     returns-2)
