@@ -16,7 +16,8 @@ use Rattle.octets.specs.Sums.{total}
 use Rattle.octets.proofs.Numbers.{part-bytes}
 use Rattle.octets.proofs.Parts.{part-is, length-part, one-by-one, chunk}
 use Rattle.packet.specs.Frames.{lengthOf, unitOf, sumOf, frameTests, headerTests, judgedContent, judgedPacket}
-use Rattle.packet.specs.Headers.{headerOf, headBytes, tailBytes, packetBytes}
+use Rattle.packet.specs.Headers.{headerOf}
+use Rattle.output.specs.Packets.{headBytes, tailBytes, packetBytes}
 use Rattle.unit.specs.Units.{judgedUnder}
 use Rattle.packet.specs.Frames.{commandOf}
 use Rattle.verdict.specs.Orders.{inOrder, isGood}

@@ -11,7 +11,7 @@ use Rattle.octets.specs.Parts.{part, putAt, oneByOne}
 use Rattle.octets.specs.Sums.{total}
 use Rattle.octets.proofs.Parts.{part-is, length-part, put-put, put-same, put-from, length-put, one-by-one}
 use Rattle.packet.specs.declared.Header.{Header}
-use Rattle.packet.specs.Headers.{headBytes, tailBytes, packetBytes}
+use Rattle.output.specs.Packets.{headBytes, tailBytes, packetBytes}
 
 -- six bytes, one by one
 pub six : (a : List ℕ) → length a ≡ 6 → oneByOne a 0 6 ≡ a

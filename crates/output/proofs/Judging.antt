@@ -9,7 +9,7 @@ use Rattle.kinds.specs.declared.Row.{Row}
 use Rattle.label.specs.Times.{judged, allowed}
 use Rattle.octets.specs.Parts.{part, putAt}
 use Rattle.packet.specs.declared.Header.{Header}
-use Rattle.packet.specs.Headers.{packetBytes}
+use Rattle.output.specs.Packets.{packetBytes}
 use Rattle.unit.specs.Units.{judgedUnder}
 use Rattle.verdict.specs.declared.Verdict.{Verdict}
 use Rattle.verdict.specs.Orders.{inOrder, refusal, good, isGood}

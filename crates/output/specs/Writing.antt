@@ -10,7 +10,7 @@ use Rattle.label.specs.Times.{judged, allowed}
 use Rattle.octets.specs.Parts.{part, putAt}
 use Rattle.packet.specs.declared.Header.{Header}
 use Rattle.packet.specs.Frames.{isCommand}
-use Rattle.packet.specs.Headers.{packetBytes}
+use Rattle.output.specs.Packets.{packetBytes}
 use Rattle.unit.specs.Units.{judgedUnder}
 use Rattle.verdict.specs.declared.Verdict.{Verdict}
 use Rattle.verdict.specs.Orders.{Test, _or-else_, inOrder, isGood}

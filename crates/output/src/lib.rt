@@ -3,7 +3,7 @@ ghost use mathlib.Core.Path.{_≡_};
 ghost use Prim.Native.Nat.{_+_, _≤_};
 ghost use Rattle.kinds.specs.Table.{rows};
 ghost use Rattle.octets.specs.Parts.{part, putAt};
-ghost use Rattle.packet.specs.Headers.{headBytes, packetBytes};
+ghost use Rattle.output.specs.Packets.{headBytes, packetBytes};
 ghost use Rattle.verdict.specs.Orders.{inOrder, good};
 ghost use Rattle.output.specs.Writing.{roomTests, packetVerdict, writtenPacket};
 ghost use Rattle.output.specs.Objects.{objectVerdict, writtenObject, outputTextVerdict, writtenOutputText};

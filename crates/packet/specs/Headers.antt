@@ -1,14 +1,13 @@
 -- A packet's header by value, read and written (document 01, "Packet").
 -- Assumes nothing.
-use Prim.Native.Nat.{ℕ, _%_}
+use Prim.Native.Nat.{ℕ}
 use mathlib.Core.Bool.{cond}
-use mathlib.Core.List.{List, [], _∷_, _++_}
+use mathlib.Core.List.{List, []}
 use lib.ListN.{length, getD, take, drop, replicate}
 use Rattle.kinds.specs.declared.Row.{Row}
-use Rattle.label.specs.Times.{labelOf, labelBytes}
-use Rattle.octets.specs.Numbers.{lowFirst, bytesOf}
+use Rattle.label.specs.Times.{labelOf}
+use Rattle.octets.specs.Numbers.{lowFirst}
 use Rattle.octets.specs.Parts.{oneByOne}
-use Rattle.octets.specs.Sums.{total}
 use Rattle.verdict.specs.Orders.{isGood}
 use Rattle.packet.specs.declared.Header.{Header}
 use Rattle.packet.specs.declared.Opened.{Opened}
@@ -36,16 +35,3 @@ openedPacket rs p =
     cond (isGood (judgedPacket rs p))
     (record { verdict = judgedPacket rs p; header = headerOf p; length = lengthOf p })
     (record { verdict = judgedPacket rs p; header = noHeader; length = 0 })
-
--- the 27 bytes before the unit: "64, 64; serial; main version, always 1; user version; label; source; destination; L; command"
-unfoldable pub headBytes : Header → ℕ → List ℕ
-headBytes h l =
-    64 ∷ 64 ∷ (bytesOf 2 (h .serial) ++ (1 ∷ h .version ∷ (labelBytes (h .label) ++ (h .source ++ (h .destination ++ (bytesOf 2 l ++ (h .command ∷ [])))))))
-
--- "28+L: sum of bytes 3 to 27+L, modulo 256; 29+L, 30+L: 35, 35"
-abbrev pub tailBytes : List ℕ → List ℕ
-tailBytes sealed = total sealed % 256 ∷ 35 ∷ 35 ∷ []
-
--- a packet, from its header's fields and its unit
-unfoldable pub packetBytes : Header → List ℕ → List ℕ
-packetBytes h u = headBytes h (length u) ++ (u ++ tailBytes (drop 2 (headBytes h (length u)) ++ u))

@@ -13,7 +13,8 @@ use Rattle.octets.specs.Parts.{within, part, putAt}
 use Rattle.output.specs.Writing.{packetVerdict, writtenPacket}
 use Rattle.packet.specs.declared.Header.{Header}
 use Rattle.packet.specs.Frames.{frameTests}
-use Rattle.packet.specs.Headers.{headerOf, packetBytes}
+use Rattle.packet.specs.Headers.{headerOf}
+use Rattle.output.specs.Packets.{packetBytes}
 use Rattle.unit.specs.Units.{judgedUnder}
 use Rattle.verdict.specs.declared.Verdict.{Verdict}
 use Rattle.verdict.specs.Orders.{inOrder, refusal, good, isGood}

@@ -11,7 +11,8 @@ use Rattle.label.specs.Times.{judged, allowed}
 use Rattle.octets.specs.Parts.{putAt}
 use Rattle.packet.specs.declared.Header.{Header}
 use Rattle.packet.specs.Frames.{commandOf, frameTests, judgedContent}
-use Rattle.packet.specs.Headers.{headerOf, packetBytes}
+use Rattle.packet.specs.Headers.{headerOf}
+use Rattle.output.specs.Packets.{packetBytes}
 use Rattle.verdict.specs.declared.Verdict.{Verdict}
 use Rattle.verdict.specs.Orders.{Test, _or-else_, inOrder, good, isGood}
 use Rattle.verdict.specs.Refusals.{TIME, ROOM}
