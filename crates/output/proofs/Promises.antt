@@ -15,10 +15,10 @@ use Rattle.octets.specs.Parts.{part, putAt}
 use Rattle.octets.proofs.Parts.{length-part, put-from}
 use Rattle.packet.specs.declared.Header.{Header}
 use Rattle.packet.specs.declared.Opened.{Opened}
-use Rattle.packet.specs.Frames.{lengthOf, commandOf, unitOf, isCommand, frameTests, headerTests, judgedContent, judgedPacket}
+use Rattle.packet.specs.Frames.{lengthOf, commandOf, unitOf, frameTests, headerTests, judgedContent, judgedPacket}
 use Rattle.packet.specs.Headers.{headerOf, openedPacket}
 use Rattle.output.specs.Packets.{packetBytes}
-use Rattle.unit.specs.Units.{judgedUnder}
+use Rattle.unit.specs.Units.{isCommand, judgedUnder}
 use Rattle.verdict.specs.declared.Verdict.{Verdict}
 use Rattle.verdict.specs.Orders.{inOrder, isGood}
 use Rattle.verdict.proofs.Order.{good-held, all-passed}

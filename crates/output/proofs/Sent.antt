@@ -18,10 +18,10 @@ use Rattle.octets.specs.Sums.{total}
 use Rattle.octets.proofs.Numbers.{bytes-low}
 use Rattle.octets.proofs.Parts.{part-is}
 use Rattle.packet.specs.declared.Header.{Header}
-use Rattle.packet.specs.Frames.{lengthOf, commandOf, unitOf, sumOf, isCommand, frameTestsAt, frameTests, headerTests, judgedContent, judgedPacket}
+use Rattle.packet.specs.Frames.{lengthOf, commandOf, unitOf, sumOf, frameTestsAt, frameTests, headerTests, judgedContent, judgedPacket}
 use Rattle.packet.specs.Headers.{headerOf}
 use Rattle.output.specs.Packets.{headBytes, tailBytes, packetBytes}
-use Rattle.unit.specs.Units.{judgedUnder}
+use Rattle.unit.specs.Units.{isCommand, judgedUnder}
 use Rattle.verdict.specs.Orders.{Held, inOrder}
 use Rattle.verdict.proofs.Order.{all-passed}
 use Rattle.output.proofs.Filling.{head-is, head-long, six}

@@ -9,9 +9,8 @@ use Rattle.kinds.specs.declared.Row.{Row}
 use Rattle.label.specs.Times.{judged, allowed}
 use Rattle.octets.specs.Parts.{part, putAt}
 use Rattle.packet.specs.declared.Header.{Header}
-use Rattle.packet.specs.Frames.{isCommand}
 use Rattle.output.specs.Packets.{packetBytes}
-use Rattle.unit.specs.Units.{judgedUnder}
+use Rattle.unit.specs.Units.{isCommand, judgedUnder}
 use Rattle.verdict.specs.declared.Verdict.{Verdict}
 use Rattle.verdict.specs.Orders.{Test, _or-else_, inOrder, isGood}
 use Rattle.verdict.specs.Refusals.{LENGTH, ROOM, COMMAND, TIME}

@@ -1,7 +1,7 @@
 -- The judge of a packet (document 01, "Packet", "Orders"; 001, 6.6). The document counts a packet's bytes from 1, a list's places from 0.
 -- Assumes nothing.
 use Prim.Native.Nat.{ℕ, _+_, _%_}
-use mathlib.Core.Bool.{Bool, _&&_}
+use mathlib.Core.Bool.{_&&_}
 use mathlib.Core.List.{List, [], _∷_}
 use lib.Dec.{leb, eqb}
 use lib.ListN.{length, getD, take, drop}
@@ -10,7 +10,7 @@ use Rattle.label.specs.Times.{labelOf, judged, allowed}
 use Rattle.octets.specs.Numbers.{lowFirst}
 use Rattle.octets.specs.Parts.{part}
 use Rattle.octets.specs.Sums.{total}
-use Rattle.unit.specs.Units.{judgedUnder}
+use Rattle.unit.specs.Units.{isCommand, judgedUnder}
 use Rattle.verdict.specs.declared.Verdict.{Verdict}
 use Rattle.verdict.specs.declared.Part.{Part}
 use Rattle.verdict.specs.Orders.{Test, _or-else_, inOrder, partBy}
@@ -45,10 +45,6 @@ frameTestsAt p l =
 
 abbrev pub frameTests : List ℕ → List Test
 frameTests p = frameTestsAt p (lengthOf p)
-
--- "COMMAND: not 1 to 6"
-abbrev pub isCommand : ℕ → Bool
-isCommand c = leb 1 c && leb c 6
 
 -- "VERSION, COMMAND, TIME of the header"
 abbrev pub headerTests : List ℕ → List Test

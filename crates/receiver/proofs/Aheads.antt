@@ -1,5 +1,5 @@
 -- What is found some way ahead, and where nothing is skipped. Assumes nothing.
-use Prim.Native.Nat.{ℕ, _+_, _≤_}
+use Prim.Native.Nat.{ℕ, _+_, _<_}
 use native.Mathlib.Omega.{arith}
 use mathlib.Core.List.{List, _++_}
 use mathlib.Core.Path.{_≡_, refl, subst}
@@ -13,16 +13,16 @@ use Rattle.reading.specs.Finding.{noiseAt, more, noise, hit}
 use Rattle.reading.proofs.Stands.{Bounds, bounds}
 use Rattle.receiver.specs.Runs.{ahead, settled}
 
--- what stands at the head of two rows looked at no more than is there
-pub skip-few : (M : ℕ) (a b : List ℕ) {k : ℕ} → stands M (a ++ b) ≡ Skip k → (1 ≤ k) × (k ≤ length a + length b)
-skip-few M a b e =
+-- what stands at the head of two rows looked at no more than is there: no place that follows from it passes the bound that their end keeps
+pub skip-inside : (M n at : ℕ) (a b : List ℕ) {k : ℕ} → stands M (a ++ b) ≡ Skip k → at + (length a + length b) < n → (at + k < n) × (at + 1 < n)
+skip-inside M n at a b e h =
     let few = subst (Bounds M (a ++ b)) e (bounds M (a ++ b)) in
-    (few .0, omega (arith, few .2, length-append a b))
+    (omega (arith, few .2, length-append a b, h), omega (arith, few .0, few .2, length-append a b, h))
 
-pub hit-few : (M : ℕ) (a b : List ℕ) {e : Event} {k p : ℕ} → stands M (a ++ b) ≡ Hit e k p → (p ≤ k) × (k ≤ length a + length b)
-hit-few M a b e =
+pub hit-inside : (M n at : ℕ) (a b : List ℕ) {e : Event} {k p : ℕ} → stands M (a ++ b) ≡ Hit e k p → at + (length a + length b) < n → (at + k < n) × (at + p < n)
+hit-inside M n at a b e h =
     let few = subst (Bounds M (a ++ b)) e (bounds M (a ++ b)) in
-    (few .2, omega (arith, few .3, length-append a b))
+    (omega (arith, few .3, length-append a b, h), omega (arith, few .2, few .3, length-append a b, h))
 
 -- a step whose three places lie so much further
 further : (f : Step) (n at looked next : ℕ) → at ≡ n + f .at → looked ≡ n + f .looked → next ≡ n + f .next

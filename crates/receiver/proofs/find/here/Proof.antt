@@ -5,38 +5,30 @@ use mathlib.Core.Path.{sym, ap, _∙_}
 use lib.ListN.{length, length-append}
 use Rattle.reading.specs.declared.Standing.{Standing}
 use Rattle.receiver.specs.Runs.{ahead, settled}
-use Rattle.receiver.proofs.Aheads.{skip-few, hit-few, ahead-wait, ahead-skip, ahead-hit}
+use Rattle.receiver.proofs.Aheads.{skip-inside, hit-inside, ahead-wait, ahead-skip, ahead-hit}
 use borrow.Author.Needs.{needs}
 use Rattle.receiver.proofs.find.here.Statement.{statement}
 use Rattle.receiver.proofs.find.here.Tie as tie
 
 add-t18 : tie.Need-add-t18
 add-t18 c =
-    let s = c .before .before .before in
-    let a = s .before .before .before .args in
-    let few = skip-few (a .max) (a .a .now) (a .b .now) (sym (s .stand .ensures) ∙ c .before .k .given .1) in
-    omega (arith, few, s .before .before .before .pre .1 .1)
+    let a = c .before .before .before .before .before .before .args in
+    omega (arith, skip-inside (a .max) _ (a .at) (a .a .now) (a .b .now) (sym (c .before .before .before .stand .ensures) ∙ c .before .k .given .1) (c .before .before .before .before .before .before .pre .1 .1) .0)
 
 add-t19 : tie.Need-add-t19
 add-t19 c =
-    let s = c .before .before .before in
-    let a = s .before .before .before .args in
-    let few = skip-few (a .max) (a .a .now) (a .b .now) (sym (s .stand .ensures) ∙ c .before .k .given .1) in
-    omega (arith, few, s .before .before .before .pre .1 .1)
+    let a = c .before .before .before .before .before .before .args in
+    omega (arith, skip-inside (a .max) _ (a .at) (a .a .now) (a .b .now) (sym (c .before .before .before .stand .ensures) ∙ c .before .k .given .1) (c .before .before .before .before .before .before .pre .1 .1) .1)
 
 add-t20 : tie.Need-add-t20
 add-t20 c =
-    let s = c .before .before .before in
-    let a = s .before .before .before .args in
-    let few = hit-few (a .max) (a .a .now) (a .b .now) (sym (s .stand .ensures) ∙ c .before .event .given .1) in
-    omega (arith, few, s .before .before .before .pre .1 .1)
+    let a = c .before .before .before .before .before .before .args in
+    omega (arith, hit-inside (a .max) _ (a .at) (a .a .now) (a .b .now) (sym (c .before .before .before .stand .ensures) ∙ c .before .event .given .1) (c .before .before .before .before .before .before .pre .1 .1) .0)
 
 add-t21 : tie.Need-add-t21
 add-t21 c =
-    let s = c .before .before .before in
-    let a = s .before .before .before .args in
-    let few = hit-few (a .max) (a .a .now) (a .b .now) (sym (s .stand .ensures) ∙ c .before .event .given .1) in
-    omega (arith, few, s .before .before .before .pre .1 .1)
+    let a = c .before .before .before .before .before .before .args in
+    omega (arith, hit-inside (a .max) _ (a .at) (a .a .now) (a .b .now) (sym (c .before .before .before .stand .ensures) ∙ c .before .event .given .1) (c .before .before .before .before .before .before .pre .1 .1) .1)
 
 returns : tie.Need-returns
 returns c =
