@@ -62,6 +62,13 @@ use Rattle.exchange.proofs.Exchanges.reply.Reads as exchange-exchanges-reply
 use Rattle.exchange.proofs.Exchanges.tick.Reads as exchange-exchanges-tick
 use Rattle.devices.proofs.judge.Reads as devices-judge
 use Rattle.devices.proofs.find_place.Reads as devices-find-place
+use Rattle.reply.proofs.Due.command.Reads as reply-due-command
+use Rattle.flat.proofs.flat_of.Reads as flat-flat-of
+use Rattle.flat.proofs.fields_from.Reads as flat-fields-from
+use Rattle.coded.proofs.CodedExchanges.fresh.Reads as coded-exchanges-fresh
+use Rattle.coded.proofs.CodedExchanges.begin.Reads as coded-exchanges-begin
+use Rattle.coded.proofs.CodedExchanges.reply.Reads as coded-exchanges-reply
+use Rattle.coded.proofs.CodedExchanges.tick.Reads as coded-exchanges-tick
 use Rattle.octets.proofs.wide.Reads as octets-wide
 
 pub octets-byte-at-determined : (κs : _) (x : _) (r s : _) → octets-byte-at.Post κs x r x → octets-byte-at.Post κs x s x → r ≡ s
@@ -249,3 +256,24 @@ devices-find-place-determined κs x r s a b = a ∙ sym b
 
 pub octets-wide-determined : (κs : _) (x : _) (r s : _) → octets-wide.Post κs x r x → octets-wide.Post κs x s x → r ≡ s
 octets-wide-determined κs x r s a b = a .0 ∙ sym (b .0)
+
+pub reply-due-command-determined : (κs : _) (x : _) (r s : _) → reply-due-command.Post κs x r x → reply-due-command.Post κs x s x → r ≡ s
+reply-due-command-determined κs x r s a b = a ∙ sym b
+
+pub flat-flat-of-determined : (κs : _) (x : _) (r s : _) → flat-flat-of.Post κs x r x → flat-flat-of.Post κs x s x → r ≡ s
+flat-flat-of-determined κs x r s a b = a ∙ sym b
+
+pub flat-fields-from-determined : (κs : _) (x : _) (r s : _) → flat-fields-from.Post κs x r x → flat-fields-from.Post κs x s x → r ≡ s
+flat-fields-from-determined κs x r s a b = a ∙ sym b
+
+pub coded-exchanges-fresh-determined : (κs : _) (x : _) (r s : _) → coded-exchanges-fresh.Post κs x r x → coded-exchanges-fresh.Post κs x s x → r ≡ s
+coded-exchanges-fresh-determined κs x r s a b = a ∙ sym b
+
+pub coded-exchanges-begin-determined : (κs : _) (x : _) (r s : _) → coded-exchanges-begin.Post κs x r x → coded-exchanges-begin.Post κs x s x → r ≡ s
+coded-exchanges-begin-determined κs x r s a b = a ∙ sym b
+
+pub coded-exchanges-reply-determined : (κs : _) (x : _) (r s : _) → coded-exchanges-reply.Post κs x r x → coded-exchanges-reply.Post κs x s x → r ≡ s
+coded-exchanges-reply-determined κs x r s a b = a ∙ sym b
+
+pub coded-exchanges-tick-determined : (κs : _) (x : _) (r s : _) → coded-exchanges-tick.Post κs x r x → coded-exchanges-tick.Post κs x s x → r ≡ s
+coded-exchanges-tick-determined κs x r s a b = a ∙ sym b

@@ -35,6 +35,7 @@ pub const PARTS: Section = Section {
 };
 
 // A table's verdict, and where it is good the numbers of its systems and parts.
+#[repr(C)]
 pub struct Judgement {
     pub verdict: Verdict,
     pub systems: usize,
@@ -42,6 +43,7 @@ pub struct Judgement {
 }
 
 // The seven bytes by which a part is found: its system's type and address, its own type, and its address of four bytes.
+#[repr(C)]
 pub struct PartKey {
     pub system: u8,
     pub address: u8,

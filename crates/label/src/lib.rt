@@ -5,6 +5,7 @@ ghost use lib.Dec.{leb};
 ghost use lib.ListN.{drop};
 ghost use Rattle.label.specs.Times.{labelOf, labelBytes, judged, allowed};
 
+#[repr(C)]
 pub struct Label {
     pub second: u8,
     pub minute: u8,

@@ -13,6 +13,7 @@ use verdict::Part;
 use verdict::Verdict;
 
 // A packet's fields; the addresses are kept as bytes.
+#[repr(C)]
 pub struct Header {
     pub serial: u16,
     pub version: u8,
@@ -23,6 +24,7 @@ pub struct Header {
 }
 
 // A packet's fields and its unit's length with the verdict, zeros where it is refused.
+#[repr(C)]
 pub struct Opened {
     pub verdict: Verdict,
     pub header: Header,

@@ -24,8 +24,12 @@ module _ {A B : Type 0} (f : A → B) where
   fill-suc (x ∷ d) (a ∷ s) (suc i) z e h =
       ap (λ (l : List B). f a ∷ l) (fill-suc d s i z (omega arith) (le-of-suc-le-suc h))
 
-  pub fill-more : (d : List B) (s : List A) (i : ℕ) (z : A) → length d ≡ length s → i < length s → set (filled d s i) i (f (getD s i z)) ≡ filled d s (i + 1)
-  fill-more d s i z e h = fill-suc d s i z e h ∙ ap (filled d s) (sym (add-one i))
+  pub fill-turn : (d : List B) (s : List A) (now : List B) (x : B) (i : ℕ) (z : A) → length d ≡ length s → i < length s → now ≡ filled d s i → x ≡ f (getD s i z) → set now i x ≡ filled d s (i + 1)
+  fill-turn d s now x i z e h p q =
+      ap (λ (l : List B). set l i x) p
+      ∙ ap (λ (y : B). set (filled d s i) i y) q
+      ∙ fill-suc d s i z e h
+      ∙ ap (filled d s) (sym (add-one i))
 
   fill-whole : (d : List B) (s : List A) → length d ≡ length s → filled d s (length s) ≡ map f s
   unfolding filled

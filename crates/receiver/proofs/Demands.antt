@@ -21,6 +21,7 @@ use Rattle.receiver.specs.declared.Served.{Served}
 use Rattle.receiver.specs.Receivers.{given, receiverOf, receivedOf}
 use Rattle.receiver.proofs.Receiver.receive.Reads as receive
 use Rattle.receiver.proofs.receive_lent.Reads as receive-lent
+use Rattle.receiver.proofs.clear_lent.Reads as clear-lent
 
 pub receive-determined : (κs : Lfts 2) (x : Receiver) (piece out o p : RefT (List ℕ)) (r s : Received)
     → receive.Post κs (x, (piece, (out, tt))) r (x, (piece, (o, tt))) → receive.Post κs (x, (piece, (out, tt))) s (x, (piece, (p, tt)))
@@ -32,6 +33,9 @@ pub lent-determined : (κs : Lfts 3) (hold h k : RefT (List ℕ)) (held skipped 
     → receive-lent.Post κs (hold, (held, (skipped, (piece, (out, tt))))) s (k, (held, (skipped, (piece, (p, tt)))))
     → (r ≡ s) × (now h ≡ now k) × (now o ≡ now p)
 lent-determined κs hold h k held skipped piece out o p r s a b = (a .0 ∙ sym (b .0), a .1 .0 ∙ sym (b .1 .0), a .1 .1 ∙ sym (b .1 .1))
+
+pub clear-determined : (κs : Lfts 1) (hold h k : RefT (List ℕ)) (r s : _) → clear-lent.Post κs (hold, tt) r (h, tt) → clear-lent.Post κs (hold, tt) s (k, tt) → now h ≡ now k
+clear-determined κs hold h k r s a b = a ∙ sym b
 
 -- a piece offered until more is asked for: at each call any answer and any buffer that meet the contract
 pub data Offering (lent : ℕ → RefT (List ℕ)) : ℕ → Receiver → List ℕ → List Heard → Receiver → ℕ → Type 0 where

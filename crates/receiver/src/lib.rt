@@ -67,6 +67,13 @@ impl Receiver {
     }
 }
 
+// Makes a lent hold that of a fresh receiver.
+pub fn clear_lent(hold: &mut [u8; 1054])
+    ensures { λ r. ⌜ now (hold .exit) ≡ fresh 1024 .hold ⌝ }
+{
+    rows::wipe(hold, 0, 1054)
+}
+
 // The same call on a lent hold, which is not copied.
 pub fn receive_lent(
     hold: &mut [u8; 1054],

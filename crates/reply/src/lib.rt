@@ -14,6 +14,19 @@ pub enum Due {
     Deny,
 }
 
+impl Due {
+    // The reply's command, 0 where none is due.
+    pub fn command(self) -> u8
+        ensures { λ r. ⌜ r ≡ commandFor self ⌝ }
+    {
+        match self {
+            Due::Nothing => 0,
+            Due::Confirm => 3,
+            Due::Deny => 6,
+        }
+    }
+}
+
 // What was written: nothing where no reply is due or where it is refused.
 pub struct Answer {
     pub verdict: Verdict,
@@ -33,7 +46,7 @@ pub fn answer_to(p: &[u8], label: Label, out: &mut [u8]) -> Answer
         };
     }
     let due = due_to(p);
-    let command = command_for(due);
+    let command = due.command();
     if command == 0 {
         return Answer {
             verdict: Verdict::good(),
@@ -92,16 +105,6 @@ fn to_refused(command: u8) -> Due
         return Due::Nothing;
     }
     Due::Deny
-}
-
-fn command_for(due: Due) -> u8
-    ensures { λ r. ⌜ r ≡ commandFor due ⌝ }
-{
-    match due {
-        Due::Nothing => 0,
-        Due::Confirm => 3,
-        Due::Deny => 6,
-    }
 }
 
 // Serial and user version copied, the addresses swapped.

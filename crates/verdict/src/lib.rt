@@ -7,12 +7,14 @@ ghost use Rattle.verdict.specs.Orders.{good, refusal, isGood, noPart};
 pub mod names;
 
 // Good is 0 and 0; a refusal is its number and its place, 0 where none is named.
+#[repr(C)]
 pub struct Verdict {
     pub number: u8,
     pub place: usize,
 }
 
 // A verdict, and where a part stands in the caller's bytes: 0 and 0 where it is refused.
+#[repr(C)]
 pub struct Part {
     pub verdict: Verdict,
     pub from: usize,

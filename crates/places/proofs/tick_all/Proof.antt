@@ -3,14 +3,11 @@ use Prim.Native.Nat.{_-_, _≤_, _<_}
 use native.Mathlib.Omega.{arith}
 use borrow.Author.Needs.{needs}
 use mathlib.Core.Path.{_≡_, refl, sym, ap, _∙_}
-use mathlib.Core.List.{List}
-use lib.ListN.{length, getD, set, replicate}
-use Rattle.place.specs.declared.Place.{Place}
+use lib.ListN.{length, getD, replicate}
 use Rattle.place.specs.declared.Step.{Step}
 use Rattle.place.specs.Rules.{free}
-use Rattle.places.specs.declared.Report.{Report}
 use Rattle.places.specs.Rows.{aged, report, nothing, swept}
-use Rattle.places.proofs.Fill.{filled, fill-more, fill-end}
+use Rattle.places.proofs.Fill.{filled, fill-turn, fill-end}
 use Rattle.places.proofs.tick_all.Statement.{statement}
 use Rattle.places.proofs.tick_all.Tie as tie
 
@@ -27,19 +24,12 @@ loop-holds c = (omega arith, refl, refl)
 loop-again : tie.Need-loop-again Inv-loop μ-loop
 loop-again c =
     let a = c .before .before .before .before .before .args in
-    let ps = a .t1 in
-    let i = c .before .before .before .before .loop .i in
-    let now = replicate 16 nothing in
-    let p = getD ps i free in
-    let long : length ps ≡ 16 = search needs in
-    let below : i < length ps = omega arith in (
+    let l = c .before .before .before .before .loop in
+    let long : length (a .t1) ≡ 16 = search needs in
+    let below : l .i < length (a .t1) = omega arith in (
       omega arith,
-      ap (λ (l : List Place). set l i (c .before .ticked .result .place)) (c .before .before .before .before .loop .inv .1)
-          ∙ ap (λ (s : Step). set (filled (aged (a .timeout) (a .resends)) ps ps i) i (s .place)) (c .before .ticked .ensures)
-          ∙ fill-more (aged (a .timeout) (a .resends)) ps ps i free refl below,
-      ap (λ (l : List Report). set l i (record { outcome = c .before .ticked .result .outcome; serial = p .serial })) (c .before .before .before .before .loop .inv .2)
-          ∙ ap (λ (s : Step). set (filled (report (a .timeout) (a .resends)) now ps i) i (record { outcome = s .outcome; serial = p .serial })) (c .before .ticked .ensures)
-          ∙ fill-more (report (a .timeout) (a .resends)) now ps i free (sym long) below,
+      fill-turn (aged (a .timeout) (a .resends)) (a .t1) (a .t1) (l .now) (c .before .ticked .result .place) (l .i) free refl below (l .inv .1) (ap (λ (s : Step). s .place) (c .before .ticked .ensures)),
+      fill-turn (report (a .timeout) (a .resends)) (replicate 16 nothing) (a .t1) (l .reports) (record { outcome = c .before .ticked .result .outcome; serial = getD (a .t1) (l .i) free .serial }) (l .i) free (sym long) below (l .inv .2) (ap (λ (s : Step). record { outcome = s .outcome; serial = getD (a .t1) (l .i) free .serial }) (c .before .ticked .ensures)),
     )
 
 returns : tie.Need-returns Inv-loop μ-loop

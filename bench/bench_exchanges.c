@@ -1,0 +1,134 @@
+/* The exchange table, with none, some and all of its places open. */
+#include "bench.h"
+
+static trawnosz_exchanges ours, plain;
+
+static void same_tables(void)
+{
+    agree(ours.next == plain.next && ours.timeout == plain.timeout && ours.resends == plain.resends);
+    for (size_t i = 0; i < TRAWNOSZ_EXCHANGES; i++) {
+        const trawnosz_place *a = &ours.places[i], *b = &plain.places[i];
+        agree(a->serial == b->serial && a->mode == b->mode && a->resends == b->resends && a->age == b->age);
+    }
+}
+
+/* Both tables with the first `open` places open under serials from 0, and the given age. */
+static void set(size_t open, uint8_t resends, uint8_t age)
+{
+    memset(&plain, 0, sizeof plain);
+    plain.timeout = 10;
+    plain.resends = resends;
+    plain.next = (uint16_t)open;
+    for (size_t i = 0; i < open; i++) {
+        plain.places[i].serial = (uint16_t)i;
+        plain.places[i].mode = i % 2 ? TRAWNOSZ_MODE_REQUEST : TRAWNOSZ_MODE_SEND;
+        plain.places[i].age = age;
+    }
+    ours = plain;
+}
+
+static void fresh(void)
+{
+    unsigned number = row("exchanges_fresh", 0, NOT_ABOVE_TWIN);
+    trawnosz_made made;
+    trawnosz_verdict verdict;
+    MEASURE(REGION(number, OURS), made = trawnosz_exchanges_fresh(10, 3); ours = made.state);
+    MEASURE(REGION(number, PLAIN), verdict = twin_exchanges_fresh(&plain, 10, 3));
+    agree(same_verdict(made.verdict, verdict));
+    same_tables();
+}
+
+static void begin(const char *name, trawnosz_begun (*library)(trawnosz_exchanges), twin_begun (*twin)(trawnosz_exchanges *))
+{
+    unsigned number = row(name, 0, NOT_ABOVE_TWIN);
+    trawnosz_begun a;
+    twin_begun b;
+    MEASURE(REGION(number, OURS), a = library(ours); ours = a.state);
+    MEASURE(REGION(number, PLAIN), b = twin(&plain));
+    agree(same_verdict(a.verdict, b.verdict) && a.place == b.place && a.serial == b.serial);
+    same_tables();
+}
+
+static void reply(const char *name, trawnosz_replied (*library)(trawnosz_exchanges, uint16_t),
+                  twin_replied (*twin)(trawnosz_exchanges *, uint16_t), uint16_t serial)
+{
+    unsigned number = row(name, 0, NOT_ABOVE_TWIN);
+    trawnosz_replied a;
+    twin_replied b;
+    MEASURE(REGION(number, OURS), a = library(ours, serial); ours = a.state);
+    MEASURE(REGION(number, PLAIN), b = twin(&plain, serial));
+    agree(same_verdict(a.verdict, b.verdict) && a.place == b.place && a.outcome == b.outcome);
+    same_tables();
+}
+
+static void tick(const char *name)
+{
+    unsigned number = row(name, 0, NOT_ABOVE_TWIN);
+    trawnosz_ticked a;
+    trawnosz_verdict b;
+    trawnosz_report reports[TRAWNOSZ_EXCHANGES];
+    MEASURE(REGION(number, OURS), a = trawnosz_tick(ours); ours = a.state);
+    MEASURE(REGION(number, PLAIN), b = twin_tick(&plain, reports));
+    agree(same_verdict(a.verdict, b));
+    for (size_t i = 0; i < TRAWNOSZ_EXCHANGES; i++)
+        agree(a.reports[i].outcome == reports[i].outcome && a.reports[i].serial == reports[i].serial);
+    same_tables();
+}
+
+static void bench_begin(void)
+{
+    set(0, 3, 0);
+    begin("begin_send: empty table", trawnosz_begin_send, twin_begin_send);
+    set(8, 3, 0);
+    begin("begin_send: 8 open", trawnosz_begin_send, twin_begin_send);
+    set(15, 3, 0);
+    begin("begin_send: 15 open", trawnosz_begin_send, twin_begin_send);
+    set(15, 3, 0);
+    plain.next = ours.next = 0;
+    begin("begin_send: 15 open, the next 15 serials", trawnosz_begin_send, twin_begin_send);
+    set(16, 3, 0);
+    begin("begin_send: full table, refused", trawnosz_begin_send, twin_begin_send);
+    set(15, 3, 0);
+    begin("begin_request: 15 open", trawnosz_begin_request, twin_begin_request);
+}
+
+static void bench_reply(void)
+{
+    set(0, 3, 0);
+    reply("reply_deny: empty table, refused", trawnosz_reply_deny, twin_reply_deny, 0);
+    set(16, 3, 0);
+    reply("reply_deny: full table, first place, resent", trawnosz_reply_deny, twin_reply_deny, 0);
+    set(16, 3, 0);
+    reply("reply_deny: full table, last place, resent", trawnosz_reply_deny, twin_reply_deny, 15);
+    set(16, 0, 0);
+    reply("reply_deny: full table, last place, failed", trawnosz_reply_deny, twin_reply_deny, 15);
+    set(16, 3, 0);
+    reply("reply_confirm: full table, place 14", trawnosz_reply_confirm, twin_reply_confirm, 14);
+    set(16, 3, 0);
+    reply("reply_answer: full table, last place", trawnosz_reply_answer, twin_reply_answer, 15);
+    set(16, 3, 0);
+    reply("reply_bad_answer: full table, last place", trawnosz_reply_bad_answer, twin_reply_bad_answer, 15);
+}
+
+static void bench_tick(void)
+{
+    set(0, 3, 0);
+    tick("tick: empty table");
+    set(8, 3, 0);
+    tick("tick: 8 open");
+    set(16, 3, 0);
+    tick("tick: full table");
+    set(16, 3, 9);
+    tick("tick: full table, all resent");
+    set(16, 0, 9);
+    tick("tick: full table, all failed");
+}
+
+void bench_exchanges(void)
+{
+    section("Exchange table");
+    fresh();
+    bench_begin();
+    bench_reply();
+    bench_tick();
+}

@@ -1,0 +1,95 @@
+/* Judging units and reading objects. */
+#include "bench.h"
+
+static uint8_t unit[TRAWNOSZ_LONGEST_UNIT];
+
+static void judge(const char *name, size_t length)
+{
+    unsigned number = row(name, length, NOT_ABOVE_TWIN);
+    trawnosz_verdict ours, plain;
+    MEASURE(REGION(number, OURS), ours = trawnosz_judge_unit(unit, length));
+    MEASURE(REGION(number, PLAIN), plain = twin_judge_unit(unit, length));
+    agree(same_verdict(ours, plain));
+}
+
+static void judge_under(const char *name, size_t length, uint8_t command)
+{
+    unsigned number = row(name, length, NOT_ABOVE_TWIN);
+    trawnosz_verdict ours, plain;
+    MEASURE(REGION(number, OURS), ours = trawnosz_judge_unit_under(unit, length, command));
+    MEASURE(REGION(number, PLAIN), plain = twin_judge_unit_under(unit, length, command));
+    agree(same_verdict(ours, plain));
+}
+
+typedef trawnosz_part finder(const uint8_t *unit, size_t unit_length, size_t number);
+
+static void place(const char *name, finder *library, finder *twin, size_t length, size_t object)
+{
+    unsigned number = row(name, length, NOT_ABOVE_TWIN);
+    trawnosz_part ours, plain;
+    MEASURE(REGION(number, OURS), ours = library(unit, length, object));
+    MEASURE(REGION(number, PLAIN), plain = twin(unit, length, object));
+    agree(same_part(ours, plain));
+}
+
+static void object(const char *name, size_t length, size_t number)
+{
+    place(name, trawnosz_object_place, twin_object_place, length, number);
+}
+
+static void description(const char *name, size_t length, size_t number)
+{
+    place(name, trawnosz_description_place, twin_description_place, length, number);
+}
+
+static void read(const char *name, size_t length, size_t object)
+{
+    unsigned number = row(name, length, NOT_ABOVE_TWIN);
+    trawnosz_typed ours;
+    trawnosz_verdict plain;
+    trawnosz_fields fields;
+    MEASURE(REGION(number, OURS), ours = trawnosz_read_object(unit, length, object));
+    MEASURE(REGION(number, PLAIN), plain = twin_read_object(unit, length, object, &fields));
+    agree(same_verdict(ours.verdict, plain) && memcmp(&ours.fields, &fields, sizeof fields) == 0);
+}
+
+static size_t text_unit(size_t length)
+{
+    static const uint8_t text[TRAWNOSZ_LONGEST_TEXT];
+    agree(!twin_write_text(unit, sizeof unit, text, length).number);
+    return 3 + length;
+}
+
+static void bench_judge(void)
+{
+    judge("judge_unit: 9 bytes, type 21", make_unit(unit, 21, 1, 7));
+    judge("judge_unit: 252 bytes, 25 of type 1", make_unit(unit, 1, 25, 10));
+    judge("judge_unit: 512 bytes, 51 of type 1", make_unit(unit, 1, 51, 10));
+    judge("judge_unit: 1,022 bytes, 102 of type 1", make_unit(unit, 1, 102, 10));
+    judge("judge_unit: 1,018 bytes, 127 of type 24", make_unit(unit, 24, 127, 8));
+    judge("judge_unit: 990 bytes, 26 of type 7", make_unit(unit, 7, 26, 38));
+    judge("judge_unit: 258 bytes, type 26", text_unit(255));
+    judge("judge_unit: 8 bytes, type 90", make_unit(unit, 90, 1, 6));
+    judge_under("judge_unit_under: 9 bytes, type 21", make_unit(unit, 21, 1, 7), TRAWNOSZ_SEND);
+    judge_under("judge_unit_under: 1,022 bytes, 102 of type 1", make_unit(unit, 1, 102, 10), TRAWNOSZ_ANSWER);
+}
+
+void bench_units(void)
+{
+    section("Units and objects");
+    bench_judge();
+    object("object_place: type 21", make_unit(unit, 21, 1, 7), 0);
+    object("object_place: first of 22 of type 2", make_unit(unit, 2, 22, 46), 0);
+    object("object_place: last of 22 of type 2", make_unit(unit, 2, 22, 46), 21);
+    read("read_object: type 21", make_unit(unit, 21, 1, 7), 0);
+    read("read_object: one of type 2", make_unit(unit, 2, 1, 46), 0);
+    read("read_object: first of 22 of type 2", make_unit(unit, 2, 22, 46), 0);
+    read("read_object: last of 22 of type 2", make_unit(unit, 2, 22, 46), 21);
+    read("read_object: last of 63 of type 3", make_unit(unit, 3, 63, 16), 62);
+    read("read_object: last of 102 of type 1", make_unit(unit, 1, 102, 10), 101);
+    read("read_object: last of 26 of type 7", make_unit(unit, 7, 26, 38), 25);
+    read("read_object: last of 22 of type 62", make_unit(unit, 62, 22, 6), 21);
+    description("description_place: one of type 2", make_unit(unit, 2, 1, 46), 0);
+    description("description_place: last of 22 of type 2", make_unit(unit, 2, 22, 46), 21);
+    description("description_place: type 26, 255 bytes of text", text_unit(255), 0);
+}

@@ -1,0 +1,165 @@
+/* The plain twin's exchange table. */
+#include <string.h>
+
+#include "twin.h"
+
+static trawnosz_verdict refused(uint8_t number)
+{
+    trawnosz_verdict verdict = {number, 0};
+    return verdict;
+}
+
+static int place_bad(const trawnosz_exchanges *table, const trawnosz_place *place)
+{
+    if (place->mode == TRAWNOSZ_MODE_FREE)
+        return place->serial || place->resends || place->age;
+    return place->mode > TRAWNOSZ_MODE_REQUEST || place->age >= table->timeout || place->resends > table->resends;
+}
+
+/* A serial is open in one of the first `n` places. */
+static int is_open(const trawnosz_exchanges *table, size_t n, uint16_t serial)
+{
+    for (size_t i = 0; i < n; i++)
+        if (table->places[i].mode != TRAWNOSZ_MODE_FREE && table->places[i].serial == serial)
+            return 1;
+    return 0;
+}
+
+static int setting_bad(uint8_t timeout, uint8_t resends)
+{
+    return timeout < 1 || timeout > TRAWNOSZ_LONGEST_TIMEOUT || resends > TRAWNOSZ_MOST_RESENDS;
+}
+
+static int state_bad(const trawnosz_exchanges *table)
+{
+    if (setting_bad(table->timeout, table->resends))
+        return 1;
+    for (size_t i = 0; i < TRAWNOSZ_EXCHANGES; i++) {
+        const trawnosz_place *place = &table->places[i];
+        if (place_bad(table, place))
+            return 1;
+        if (place->mode != TRAWNOSZ_MODE_FREE && is_open(table, i, place->serial))
+            return 1;
+    }
+    return 0;
+}
+
+trawnosz_verdict twin_exchanges_fresh(trawnosz_exchanges *table, uint8_t timeout, uint8_t resends)
+{
+    memset(table, 0, sizeof *table);
+    if (setting_bad(timeout, resends))
+        return refused(TRAWNOSZ_SETTING);
+    table->timeout = timeout;
+    table->resends = resends;
+    return refused(TRAWNOSZ_OK);
+}
+
+static twin_begun begin(trawnosz_exchanges *table, uint8_t mode)
+{
+    twin_begun begun = {refused(TRAWNOSZ_OK), 0, 0};
+    if (state_bad(table)) {
+        begun.verdict.number = TRAWNOSZ_STATE;
+        return begun;
+    }
+    size_t i = 0;
+    while (i < TRAWNOSZ_EXCHANGES && table->places[i].mode != TRAWNOSZ_MODE_FREE)
+        i++;
+    if (i == TRAWNOSZ_EXCHANGES) {
+        begun.verdict.number = TRAWNOSZ_FULL;
+        return begun;
+    }
+    uint16_t serial = table->next;
+    while (is_open(table, TRAWNOSZ_EXCHANGES, serial))
+        serial++;
+    table->places[i].serial = serial;
+    table->places[i].mode = mode;
+    table->next = (uint16_t)(serial + 1);
+    begun.place = i;
+    begun.serial = serial;
+    return begun;
+}
+
+twin_begun twin_begin_send(trawnosz_exchanges *table)
+{
+    return begin(table, TRAWNOSZ_MODE_SEND);
+}
+
+twin_begun twin_begin_request(trawnosz_exchanges *table)
+{
+    return begin(table, TRAWNOSZ_MODE_REQUEST);
+}
+
+static void set_free(trawnosz_place *place)
+{
+    memset(place, 0, sizeof *place);
+}
+
+/* Sends again or gives up. */
+static uint8_t again(const trawnosz_exchanges *table, trawnosz_place *place)
+{
+    if (place->resends < table->resends) {
+        place->resends++;
+        place->age = 0;
+        return TRAWNOSZ_RESENT;
+    }
+    set_free(place);
+    return TRAWNOSZ_FAILED;
+}
+
+/* The open place of a serial whose mode is among `modes`, a bit for each. */
+static twin_replied reply(trawnosz_exchanges *table, uint16_t serial, unsigned modes, uint8_t ended)
+{
+    twin_replied replied = {refused(TRAWNOSZ_OK), 0, TRAWNOSZ_NOTHING};
+    if (state_bad(table)) {
+        replied.verdict.number = TRAWNOSZ_STATE;
+        return replied;
+    }
+    for (size_t i = 0; i < TRAWNOSZ_EXCHANGES; i++) {
+        trawnosz_place *place = &table->places[i];
+        if (place->serial == serial && (modes >> place->mode & 1)) {
+            replied.place = i;
+            replied.outcome = ended;
+            if (ended)
+                set_free(place);
+            else
+                replied.outcome = again(table, place);
+            return replied;
+        }
+    }
+    replied.verdict.number = TRAWNOSZ_STRAY;
+    return replied;
+}
+
+twin_replied twin_reply_confirm(trawnosz_exchanges *table, uint16_t serial)
+{
+    return reply(table, serial, 1u << TRAWNOSZ_MODE_SEND, TRAWNOSZ_CONFIRMED);
+}
+
+twin_replied twin_reply_answer(trawnosz_exchanges *table, uint16_t serial)
+{
+    return reply(table, serial, 1u << TRAWNOSZ_MODE_REQUEST, TRAWNOSZ_ANSWERED);
+}
+
+twin_replied twin_reply_deny(trawnosz_exchanges *table, uint16_t serial)
+{
+    return reply(table, serial, 1u << TRAWNOSZ_MODE_SEND | 1u << TRAWNOSZ_MODE_REQUEST, TRAWNOSZ_NOTHING);
+}
+
+twin_replied twin_reply_bad_answer(trawnosz_exchanges *table, uint16_t serial)
+{
+    return reply(table, serial, 1u << TRAWNOSZ_MODE_REQUEST, TRAWNOSZ_NOTHING);
+}
+
+trawnosz_verdict twin_tick(trawnosz_exchanges *table, trawnosz_report reports[TRAWNOSZ_EXCHANGES])
+{
+    memset(reports, 0, TRAWNOSZ_EXCHANGES * sizeof *reports);
+    if (state_bad(table))
+        return refused(TRAWNOSZ_STATE);
+    for (size_t i = 0; i < TRAWNOSZ_EXCHANGES; i++) {
+        trawnosz_place *place = &table->places[i];
+        reports[i].serial = place->serial;
+        if (place->mode != TRAWNOSZ_MODE_FREE && ++place->age >= table->timeout)
+            reports[i].outcome = again(table, place);
+    }
+    return refused(TRAWNOSZ_OK);
+}

@@ -1,0 +1,17 @@
+-- `trawnosz_answer_to` meets its contract: by the reply and its command. Assumes nothing.
+use Prim.Native.Nat.{ℕ}
+use mathlib.Core.Path.{_≡_, ap, _∙_}
+use Rattle.trawnosz.specs.Calls.{answerTo}
+use borrow.Author.Needs.{needs}
+use Rattle.trawnosz.proofs.trawnosz_answer_to.Statement.{statement}
+use Rattle.trawnosz.proofs.trawnosz_answer_to.Tie as tie
+
+returns : tie.Need-returns
+returns c =
+    let a = c .before .before .before .before .answer-to in (
+      ap (λ (n : ℕ). record { verdict = a .result .verdict; command = n }) (c .command .ensures) ∙ ap answerTo (a .ensures .0),
+      a .ensures .1,
+    )
+
+pub trawnosz-answer-to-spec : {M : Type 1} → statement M
+trawnosz-answer-to-spec = tie.close (tie.spec (λ c κs. search needs) (λ c κs. search needs) (λ c. search needs) returns)

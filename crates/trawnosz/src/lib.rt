@@ -1,0 +1,291 @@
+// The calls that a C program links; include/trawnosz.h declares them.
+ghost use mathlib.Core.Path.{_≡_};
+ghost use Rattle.kinds.specs.Table.{rows};
+ghost use Rattle.unit.specs.Units.{judgedUnit, judgedUnder};
+ghost use Rattle.unit.specs.Places.{objectPlace};
+ghost use Rattle.unit.specs.declared.Carrier.the-variants.{Any};
+ghost use Rattle.objects.specs.Reading.{typedObject, descriptionPlace};
+ghost use Rattle.objects.specs.Writing.{writeVerdict, writtenUnit};
+ghost use Rattle.objects.specs.Texts.{textVerdict, writtenText};
+ghost use Rattle.packet.specs.Frames.{judgedPacket, unitPlace};
+ghost use Rattle.packet.specs.Headers.{openedPacket};
+ghost use Rattle.output.specs.Writing.{packetVerdict, writtenPacket};
+ghost use Rattle.output.specs.Objects.{objectVerdict, writtenObject, outputTextVerdict, writtenOutputText};
+ghost use Rattle.reply.specs.Replies.{answered, writtenReply};
+ghost use Rattle.reading.specs.Calls.{fresh, called};
+ghost use Rattle.receiver.specs.Receivers.{lent, servedOf};
+ghost use Rattle.devices.specs.Tables.{ofSystems, ofParts, judgement, foundPlace, keyBytes};
+ghost use Rattle.exchange.specs.declared.Told.the-variants.{Send, Request};
+ghost use Rattle.place.specs.declared.Reply.the-variants.{Confirm, Answer, Deny, BadAnswer};
+ghost use Rattle.flat.specs.Flats.{fieldsFrom};
+ghost use Rattle.coded.specs.Calls as coded;
+ghost use Rattle.trawnosz.specs.Calls.{servedTo, answerTo, typedTo};
+use coded::CodedBegun;
+use coded::CodedExchanges;
+use coded::CodedMade;
+use coded::CodedReplied;
+use coded::CodedTicked;
+use devices::Judgement;
+use devices::PartKey;
+use exchange::Told;
+use flat::Flat;
+use label::Label;
+use packet::Header;
+use packet::Opened;
+use place::Reply;
+use verdict::Part;
+use verdict::Verdict;
+
+// The answer of a receiver's call.
+#[repr(C)]
+pub struct ServedC {
+    pub event: u8,
+    pub length: usize,
+    pub skipped: usize,
+    pub taken: usize,
+    pub held: usize,
+    pub count: usize,
+}
+
+// What was written for a reply.
+#[repr(C)]
+pub struct AnswerC {
+    pub verdict: Verdict,
+    pub command: u8,
+}
+
+// An object's fields with the verdict.
+#[repr(C)]
+pub struct TypedC {
+    pub verdict: Verdict,
+    pub fields: Flat,
+}
+
+#[no_mangle]
+pub extern "C" fn trawnosz_fresh(hold: &mut [u8; 1054])
+    ensures { λ r. ⌜ now (hold .exit) ≡ fresh 1024 .hold ⌝ }
+{
+    receiver::clear_lent(hold)
+}
+
+#[no_mangle]
+pub extern "C" fn trawnosz_receive(
+    hold: &mut [u8; 1054],
+    held: usize,
+    count: usize,
+    piece: &[u8],
+    out: &mut [u8],
+) -> ServedC
+    ensures { λ r. ⌜ r ≡ servedTo (servedOf (called 1024 (lent (now (hold .entry)) held count) (now (piece .entry)) (now (out .entry)))) ⌝ }
+    ensures { λ r. ⌜ now (hold .exit) ≡ called 1024 (lent (now (hold .entry)) held count) (now (piece .entry)) (now (out .entry)) .state .hold ⌝ }
+    ensures { λ r. ⌜ now (out .exit) ≡ called 1024 (lent (now (hold .entry)) held count) (now (piece .entry)) (now (out .entry)) .out ⌝ }
+{
+    let s = receiver::receive_lent(hold, held, count, piece, out);
+    let event = s.event;
+    let told = event.told();
+    ServedC {
+        event: told.number,
+        length: told.length,
+        skipped: s.skipped,
+        taken: s.taken,
+        held: s.held,
+        count: s.count,
+    }
+}
+
+#[no_mangle]
+pub extern "C" fn trawnosz_judge_packet(p: &[u8]) -> Verdict
+    ensures { λ r. ⌜ r ≡ judgedPacket rows (now (p .entry)) ⌝ }
+{
+    packet::judge(p)
+}
+
+#[no_mangle]
+pub extern "C" fn trawnosz_read_packet(p: &[u8]) -> Opened
+    ensures { λ r. ⌜ r ≡ openedPacket rows (now (p .entry)) ⌝ }
+{
+    packet::read(p)
+}
+
+#[no_mangle]
+pub extern "C" fn trawnosz_unit_place(p: &[u8]) -> Part
+    ensures { λ r. ⌜ r ≡ unitPlace rows (now (p .entry)) ⌝ }
+{
+    packet::unit_place(p)
+}
+
+#[no_mangle]
+pub extern "C" fn trawnosz_write_packet(out: &mut [u8], header: Header, length: usize) -> Verdict
+    ensures { λ r. ⌜ r ≡ packetVerdict rows (now (out .entry)) header length ⌝ }
+    ensures { λ r. ⌜ now (out .exit) ≡ writtenPacket rows (now (out .entry)) header length ⌝ }
+{
+    output::write(out, header, length)
+}
+
+#[no_mangle]
+pub extern "C" fn trawnosz_write_packet_object(
+    out: &mut [u8],
+    length: usize,
+    number: usize,
+    fields: Flat,
+    description: &[u8],
+) -> Verdict
+    ensures { λ r. ⌜ r ≡ objectVerdict rows (now (out .entry)) length number (fieldsFrom fields) (now (description .entry)) ⌝ }
+    ensures { λ r. ⌜ now (out .exit) ≡ writtenObject rows (now (out .entry)) length number (fieldsFrom fields) (now (description .entry)) ⌝ }
+{
+    output::write_object(out, length, number, flat::fields_from(fields), description)
+}
+
+#[no_mangle]
+pub extern "C" fn trawnosz_write_packet_text(out: &mut [u8], text: &[u8]) -> Verdict
+    ensures { λ r. ⌜ r ≡ outputTextVerdict (now (out .entry)) (now (text .entry)) ⌝ }
+    ensures { λ r. ⌜ now (out .exit) ≡ writtenOutputText (now (out .entry)) (now (text .entry)) ⌝ }
+{
+    output::write_text(out, text)
+}
+
+#[no_mangle]
+pub extern "C" fn trawnosz_answer_to(p: &[u8], label: Label, out: &mut [u8]) -> AnswerC
+    ensures { λ r. ⌜ r ≡ answerTo (answered rows (now (p .entry)) label (now (out .entry))) ⌝ }
+    ensures { λ r. ⌜ now (out .exit) ≡ writtenReply rows (now (p .entry)) label (now (out .entry)) ⌝ }
+{
+    let a = reply::answer_to(p, label, out);
+    let verdict = a.verdict;
+    let due = a.due;
+    AnswerC {
+        verdict,
+        command: due.command(),
+    }
+}
+
+#[no_mangle]
+pub extern "C" fn trawnosz_judge_unit(u: &[u8]) -> Verdict
+    ensures { λ r. ⌜ r ≡ judgedUnit rows Any (now (u .entry)) ⌝ }
+{
+    unit::judge_alone(u)
+}
+
+#[no_mangle]
+pub extern "C" fn trawnosz_judge_unit_under(u: &[u8], command: u8) -> Verdict
+    ensures { λ r. ⌜ r ≡ judgedUnder rows command (now (u .entry)) ⌝ }
+{
+    unit::judge_under(u, command)
+}
+
+#[no_mangle]
+pub extern "C" fn trawnosz_object_place(u: &[u8], number: usize) -> Part
+    ensures { λ r. ⌜ r ≡ objectPlace rows (now (u .entry)) number ⌝ }
+{
+    unit::object_place(u, number)
+}
+
+#[no_mangle]
+pub extern "C" fn trawnosz_read_object(u: &[u8], number: usize) -> TypedC
+    ensures { λ r. ⌜ r ≡ typedTo (typedObject rows (now (u .entry)) number) ⌝ }
+{
+    let t = objects::read(u, number);
+    let verdict = t.verdict;
+    let fields = t.fields;
+    TypedC {
+        verdict,
+        fields: flat::flat_of(fields),
+    }
+}
+
+#[no_mangle]
+pub extern "C" fn trawnosz_description_place(u: &[u8], number: usize) -> Part
+    ensures { λ r. ⌜ r ≡ descriptionPlace rows (now (u .entry)) number ⌝ }
+{
+    objects::description_place(u, number)
+}
+
+#[no_mangle]
+pub extern "C" fn trawnosz_write_object(
+    u: &mut [u8],
+    number: usize,
+    fields: Flat,
+    description: &[u8],
+) -> Verdict
+    ensures { λ r. ⌜ r ≡ writeVerdict rows (now (u .entry)) number (fieldsFrom fields) (now (description .entry)) ⌝ }
+    ensures { λ r. ⌜ now (u .exit) ≡ writtenUnit rows (now (u .entry)) number (fieldsFrom fields) (now (description .entry)) ⌝ }
+{
+    objects::write(u, number, flat::fields_from(fields), description)
+}
+
+#[no_mangle]
+pub extern "C" fn trawnosz_write_text(out: &mut [u8], text: &[u8]) -> Verdict
+    ensures { λ r. ⌜ r ≡ textVerdict (now (out .entry)) (now (text .entry)) ⌝ }
+    ensures { λ r. ⌜ now (out .exit) ≡ writtenText (now (out .entry)) (now (text .entry)) ⌝ }
+{
+    objects::write_text(out, text)
+}
+
+#[no_mangle]
+pub extern "C" fn trawnosz_exchanges_fresh(timeout: u8, resends: u8) -> CodedMade
+    ensures { λ r. ⌜ r ≡ coded.made timeout resends ⌝ }
+{
+    CodedExchanges::fresh(timeout, resends)
+}
+
+#[no_mangle]
+pub extern "C" fn trawnosz_begin_send(table: CodedExchanges) -> CodedBegun
+    ensures { λ r. ⌜ r ≡ coded.begun table Send ⌝ }
+{
+    table.begin(Told::Send)
+}
+
+#[no_mangle]
+pub extern "C" fn trawnosz_begin_request(table: CodedExchanges) -> CodedBegun
+    ensures { λ r. ⌜ r ≡ coded.begun table Request ⌝ }
+{
+    table.begin(Told::Request)
+}
+
+#[no_mangle]
+pub extern "C" fn trawnosz_reply_confirm(table: CodedExchanges, serial: u16) -> CodedReplied
+    ensures { λ r. ⌜ r ≡ coded.answered table serial Confirm ⌝ }
+{
+    table.reply(serial, Reply::Confirm)
+}
+
+#[no_mangle]
+pub extern "C" fn trawnosz_reply_answer(table: CodedExchanges, serial: u16) -> CodedReplied
+    ensures { λ r. ⌜ r ≡ coded.answered table serial Answer ⌝ }
+{
+    table.reply(serial, Reply::Answer)
+}
+
+#[no_mangle]
+pub extern "C" fn trawnosz_reply_deny(table: CodedExchanges, serial: u16) -> CodedReplied
+    ensures { λ r. ⌜ r ≡ coded.answered table serial Deny ⌝ }
+{
+    table.reply(serial, Reply::Deny)
+}
+
+#[no_mangle]
+pub extern "C" fn trawnosz_reply_bad_answer(table: CodedExchanges, serial: u16) -> CodedReplied
+    ensures { λ r. ⌜ r ≡ coded.answered table serial BadAnswer ⌝ }
+{
+    table.reply(serial, Reply::BadAnswer)
+}
+
+#[no_mangle]
+pub extern "C" fn trawnosz_tick(table: CodedExchanges) -> CodedTicked
+    ensures { λ r. ⌜ r ≡ coded.ticking table ⌝ }
+{
+    table.tick()
+}
+
+#[no_mangle]
+pub extern "C" fn trawnosz_judge_table(table: &[u8]) -> Judgement
+    ensures { λ r. ⌜ r ≡ judgement ofSystems ofParts (now (table .entry)) ⌝ }
+{
+    devices::judge(table)
+}
+
+#[no_mangle]
+pub extern "C" fn trawnosz_find_place(table: &[u8], key: PartKey) -> Part
+    ensures { λ r. ⌜ r ≡ foundPlace ofSystems ofParts (now (table .entry)) (keyBytes key) ⌝ }
+{
+    devices::find_place(table, key)
+}

@@ -1,0 +1,375 @@
+/*
+ * Trawnosz: packets of GB/T 26875.3 for alarm transmitters. The calls of libtrawnosz.a, for C99 and later.
+ *
+ * Every call copes with every input and ends. What it will not take it refuses by number: the answer then holds the number
+ * and its place, zero for all else and the state as it came, and nothing that was lent is written. A number of 0 is good.
+ *
+ * Bytes are lent as a pointer and a length. A pointer with length 0 may be null and is not read; a hold is never null.
+ * What a call writes must not overlap anything else that the same call is lent. No call keeps a pointer, allocates, prints
+ * or has a memory of an earlier call: calls on different memory may run at the same time.
+ *
+ * A part is told as `from` and `to`, places in the caller's own bytes counted from 0; it ends before `to`.
+ * Structs are compared member by member: bytes between members have no meaning.
+ */
+#ifndef TRAWNOSZ_H
+#define TRAWNOSZ_H
+
+#include <stddef.h>
+#include <stdint.h>
+
+#ifdef __cplusplus
+extern "C" {
+#endif
+
+/* Sizes and limits. */
+enum {
+    TRAWNOSZ_LONGEST_PACKET = 1054,  /* the hold's size, and what a receiver's buffer needs */
+    TRAWNOSZ_LONGEST_UNIT = 1024,
+    TRAWNOSZ_LONGEST_TEXT = 255,     /* the text of type 26 */
+    TRAWNOSZ_LONGEST_TIMEOUT = 10,   /* a timeout is 1 to 10 ticks */
+    TRAWNOSZ_MOST_RESENDS = 9,       /* resends are 0 to 9 */
+    TRAWNOSZ_MOST_SYSTEMS = 64,      /* of a device table */
+    TRAWNOSZ_MOST_PARTS = 1024,      /* of a device table */
+    TRAWNOSZ_EXCHANGES = 16,         /* the places of an exchange table */
+    TRAWNOSZ_DESCRIPTION_BYTES = 31, /* of types 2 and 7 */
+    TRAWNOSZ_REPLY_BYTES = 30        /* a packet without a unit */
+};
+
+/* Refusals. */
+enum {
+    TRAWNOSZ_OK = 0,
+    TRAWNOSZ_STATE = 1,    /* a receiver or exchange state breaks its rules */
+    TRAWNOSZ_ROOM = 2,     /* receiver's buffer under 1,054; other output shorter than what is written */
+    TRAWNOSZ_CUT = 3,      /* packet under 30 bytes or not 30+L; device table ends early */
+    TRAWNOSZ_START = 4,    /* packet does not begin 64, 64 */
+    TRAWNOSZ_LENGTH = 5,   /* L over 1,024; type 26 text over 255 */
+    TRAWNOSZ_END = 6,      /* packet does not end 35, 35 */
+    TRAWNOSZ_SUM = 7,      /* the sum is wrong */
+    TRAWNOSZ_VERSION = 8,  /* main version not 1 */
+    TRAWNOSZ_COMMAND = 9,  /* not 1 to 6 */
+    TRAWNOSZ_TIME = 10,    /* a label out of range; place 0 is the header, i+1 object i */
+    TRAWNOSZ_UNIT = 11,    /* 3 or 6: L above 0; other commands, or a unit alone: under 2 bytes */
+    TRAWNOSZ_TYPE = 12,    /* not in the table, or not carried by the command */
+    TRAWNOSZ_COUNT = 13,   /* n is 0 or above its limit */
+    TRAWNOSZ_SIZE = 14,    /* unit's size is not 2 plus its objects */
+    TRAWNOSZ_NUMBER = 15,  /* object number not below n */
+    TRAWNOSZ_KIND = 16,    /* fields of another type than the unit; type 26 to the object writer */
+    TRAWNOSZ_TEXT = 17,    /* description of the wrong length */
+    TRAWNOSZ_SETTING = 18, /* timeout or resend limit out of range */
+    TRAWNOSZ_FULL = 19,    /* 16 exchanges open */
+    TRAWNOSZ_STRAY = 20,   /* no open exchange fits the reply */
+    TRAWNOSZ_MANY = 21,    /* table count over its limit */
+    TRAWNOSZ_ORDER = 22,   /* table entry not above the one before; its number from 0, parts after the systems */
+    TRAWNOSZ_ORPHAN = 23,  /* a part's system is not listed; place as for ORDER */
+    TRAWNOSZ_TAIL = 24,    /* bytes after the table */
+    TRAWNOSZ_UNLISTED = 25 /* no such part */
+};
+
+/* Events of the receiver: these, the numbers LENGTH, END and SUM for refused starts, STATE and ROOM for a refused call. */
+enum {
+    TRAWNOSZ_EVENT_MORE = 32,  /* the whole piece was taken and decides nothing */
+    TRAWNOSZ_EVENT_NOISE = 33, /* 65,535 bytes were skipped */
+    TRAWNOSZ_EVENT_PACKET = 34 /* a packet stands at the front of the buffer */
+};
+
+/* Commands of a packet. */
+enum {
+    TRAWNOSZ_CONTROL = 1,
+    TRAWNOSZ_SEND = 2,
+    TRAWNOSZ_CONFIRM = 3,
+    TRAWNOSZ_REQUEST = 4,
+    TRAWNOSZ_ANSWER = 5,
+    TRAWNOSZ_DENY = 6
+};
+
+/* Types of a unit. */
+enum {
+    TRAWNOSZ_SYSTEM_STATE = 1,
+    TRAWNOSZ_PART_STATE = 2,
+    TRAWNOSZ_ANALOGUE = 3,
+    TRAWNOSZ_OPERATION = 4,
+    TRAWNOSZ_PART_CONFIGURATION = 7,
+    TRAWNOSZ_SYSTEM_CLOCK = 8,
+    TRAWNOSZ_TRANSMITTER_STATE = 21,
+    TRAWNOSZ_TRANSMITTER_OPERATION = 24,
+    TRAWNOSZ_TRANSMITTER_VERSION = 25,
+    TRAWNOSZ_TRANSMITTER_CONFIGURATION = 26,
+    TRAWNOSZ_TRANSMITTER_CLOCK = 28,
+    TRAWNOSZ_READ_SYSTEM_STATE = 61,
+    TRAWNOSZ_READ_PART_STATE = 62,
+    TRAWNOSZ_SET_CLOCK = 90
+};
+
+/* Modes of a place in an exchange table; any other is STATE. */
+enum {
+    TRAWNOSZ_MODE_FREE = 0,
+    TRAWNOSZ_MODE_SEND = 1,
+    TRAWNOSZ_MODE_REQUEST = 2
+};
+
+/* What is told of an exchange. */
+enum {
+    TRAWNOSZ_NOTHING = 0,
+    TRAWNOSZ_CONFIRMED = 40, /* a confirm came for a send; the place is free again */
+    TRAWNOSZ_ANSWERED = 41,  /* an answer came for a request; the place is free again */
+    TRAWNOSZ_RESENT = 42,    /* to be sent again under the same serial */
+    TRAWNOSZ_FAILED = 43     /* given up; the place is free again */
+};
+
+/* 0 and 0, or a refusal's number and its place (0 where none is named). */
+typedef struct trawnosz_verdict {
+    uint8_t number;
+    size_t place;
+} trawnosz_verdict;
+
+/* A verdict, and where a part stands; 0 and 0 where it is refused. */
+typedef struct trawnosz_part {
+    trawnosz_verdict verdict;
+    size_t from;
+    size_t to;
+} trawnosz_part;
+
+/* A time label: second 0-59, minute 0-59, hour 0-23, day 1-31, month 1-12, year 0-99. */
+typedef struct trawnosz_label {
+    uint8_t second;
+    uint8_t minute;
+    uint8_t hour;
+    uint8_t day;
+    uint8_t month;
+    uint8_t year;
+} trawnosz_label;
+
+/* A packet's fields; `version` is the user version, the main one is always 1. */
+typedef struct trawnosz_header {
+    uint16_t serial;
+    uint8_t version;
+    trawnosz_label label;
+    uint8_t source[6];
+    uint8_t destination[6];
+    uint8_t command;
+} trawnosz_header;
+
+/* A packet's fields and L, zeros where it is refused. */
+typedef struct trawnosz_opened {
+    trawnosz_verdict verdict;
+    trawnosz_header header;
+    size_t length;
+} trawnosz_opened;
+
+/*
+ * The fields of an object of any type, `kind` being the type; each type has the members that its line names:
+ *   1 system address low high label                  25 main minor
+ *   2 system address part place low high label       26 (none: its text is a part)
+ *   3 system address part place analogue value label 28 label
+ *   4 system address operation operator_ label       61 system address
+ *   7 system address part place                      62 system address place
+ *   8 system address label                           90 label
+ *   21 state label                                   24 operation operator_ label
+ * A reader leaves all others 0; a writer does not look at them. `place` is the part address, low byte first in the object;
+ * `low` and `high` are the two bytes of a state as they stand.
+ */
+typedef struct trawnosz_fields {
+    uint8_t kind;
+    uint8_t system;
+    uint8_t address;
+    uint8_t part;
+    uint32_t place;
+    int16_t value;
+    uint8_t low;
+    uint8_t high;
+    uint8_t analogue;
+    uint8_t operation;
+    uint8_t operator_;
+    uint8_t state;
+    uint8_t main;
+    uint8_t minor;
+    trawnosz_label label;
+} trawnosz_fields;
+
+/* An object's fields, all zero where it is refused. */
+typedef struct trawnosz_typed {
+    trawnosz_verdict verdict;
+    trawnosz_fields fields;
+} trawnosz_typed;
+
+/* What a receiver's call found: an event with the skipped count that it carries, the packet's length for PACKET, the bytes
+ * taken from the piece, and the new state beside the hold: the bytes held and the present skipped count. */
+typedef struct trawnosz_served {
+    uint8_t event;
+    size_t length;
+    size_t skipped;
+    size_t taken;
+    size_t held;
+    size_t count;
+} trawnosz_served;
+
+/* What was written: `command` 3 or 6 for a reply of 30 bytes, 0 where none is due or where it is refused. */
+typedef struct trawnosz_answer {
+    trawnosz_verdict verdict;
+    uint8_t command;
+} trawnosz_answer;
+
+/* One exchange; a free place is all zero. */
+typedef struct trawnosz_place {
+    uint16_t serial;
+    uint8_t mode;
+    uint8_t resends;
+    uint8_t age;
+} trawnosz_place;
+
+/* The exchange table, by value: sixteen places, the serial to try next, T and R. */
+typedef struct trawnosz_exchanges {
+    trawnosz_place places[16];
+    uint16_t next;
+    uint8_t timeout;
+    uint8_t resends;
+} trawnosz_exchanges;
+
+typedef struct trawnosz_made {
+    trawnosz_verdict verdict;
+    trawnosz_exchanges state;
+} trawnosz_made;
+
+typedef struct trawnosz_begun {
+    trawnosz_verdict verdict;
+    size_t place;
+    uint16_t serial;
+    trawnosz_exchanges state;
+} trawnosz_begun;
+
+typedef struct trawnosz_replied {
+    trawnosz_verdict verdict;
+    size_t place;
+    uint8_t outcome;
+    trawnosz_exchanges state;
+} trawnosz_replied;
+
+/* What a tick told of one place, NOTHING too, and the serial that the place had before it, 0 of a free one. */
+typedef struct trawnosz_report {
+    uint8_t outcome;
+    uint16_t serial;
+} trawnosz_report;
+
+typedef struct trawnosz_ticked {
+    trawnosz_verdict verdict;
+    trawnosz_report reports[16];
+    trawnosz_exchanges state;
+} trawnosz_ticked;
+
+/* A device table's verdict, and how many systems and parts it has; 0 and 0 where it is refused. */
+typedef struct trawnosz_table {
+    trawnosz_verdict verdict;
+    size_t systems;
+    size_t parts;
+} trawnosz_table;
+
+/* The seven bytes by which a part is found: its system's type and address, its own type, the four bytes of its address. */
+typedef struct trawnosz_key {
+    uint8_t system;
+    uint8_t address;
+    uint8_t kind;
+    uint8_t first;
+    uint8_t second;
+    uint8_t third;
+    uint8_t fourth;
+} trawnosz_key;
+
+/* ---- The receiver: the hold, `held` and `count` are its state, of which the caller keeps all three. ---- */
+
+/* Makes the hold that of a fresh receiver, all zero; its held and count are 0. */
+void trawnosz_fresh(uint8_t hold[1054]);
+
+/* One call: judges held bytes first, takes from the piece up to the byte that decides, answers one event or MORE. On PACKET
+ * the packet is copied to the front of `out`; nothing else writes there. After an event the rest of the piece is offered
+ * again, even where it is empty, until MORE. Refuses STATE (held over 1,054, count over 65,534, a byte behind the held ones
+ * that is not 0), then ROOM (out under 1,054 bytes); `held` and `count` then come back as they were given. */
+trawnosz_served trawnosz_receive(uint8_t hold[1054], size_t held, size_t count, const uint8_t *piece, size_t piece_length,
+                                 uint8_t *out, size_t out_length);
+
+/* ---- Packets. ---- */
+
+/* The judge of a packet: CUT, START, LENGTH, CUT, END, SUM, VERSION, COMMAND, TIME, UNIT, TYPE, COUNT, SIZE, TIME. */
+trawnosz_verdict trawnosz_judge_packet(const uint8_t *packet, size_t packet_length);
+
+/* A packet's fields and L; refuses as its judge. */
+trawnosz_opened trawnosz_read_packet(const uint8_t *packet, size_t packet_length);
+
+/* Where a packet's unit stands; refuses as its judge. */
+trawnosz_part trawnosz_unit_place(const uint8_t *packet, size_t packet_length);
+
+/* Writes a packet around the unit of `length` bytes that already stands from out[27] on: the 27 bytes before it and the 3
+ * behind it. Refuses LENGTH, ROOM (under 30 + length), COMMAND, TIME, UNIT, TYPE, COUNT, SIZE, TIME. */
+trawnosz_verdict trawnosz_write_packet(uint8_t *out, size_t out_length, trawnosz_header header, size_t length);
+
+/* Writes an object into the unit of `length` bytes that stands from out[27] on. Refuses LENGTH, ROOM (under 27 + length),
+ * then as trawnosz_write_object. */
+trawnosz_verdict trawnosz_write_packet_object(uint8_t *out, size_t out_length, size_t length, size_t number,
+                                              trawnosz_fields fields, const uint8_t *description, size_t description_length);
+
+/* Writes a unit of type 26 from out[27] on, 3 bytes and the text. Refuses LENGTH, ROOM (under 30 + the text). */
+trawnosz_verdict trawnosz_write_packet_text(uint8_t *out, size_t out_length, const uint8_t *text, size_t text_length);
+
+/* Writes the reply that is due to a packet, 30 bytes, to the front of `out`. Refuses CUT, START, LENGTH, CUT, END, SUM of
+ * the packet; then, where a reply is due, TIME of the label and ROOM (under 30). */
+trawnosz_answer trawnosz_answer_to(const uint8_t *packet, size_t packet_length, trawnosz_label label, uint8_t *out,
+                                   size_t out_length);
+
+/* ---- Units and objects; objects are numbered from 0. ---- */
+
+/* The judge of a unit alone: UNIT, TYPE, COUNT, SIZE, TIME. */
+trawnosz_verdict trawnosz_judge_unit(const uint8_t *unit, size_t unit_length);
+
+/* The judge of a unit under a command: COMMAND, then UNIT, TYPE, COUNT, SIZE, TIME. */
+trawnosz_verdict trawnosz_judge_unit_under(const uint8_t *unit, size_t unit_length, uint8_t command);
+
+/* Where an object stands, its label included; refuses as the unit's judge, then NUMBER. */
+trawnosz_part trawnosz_object_place(const uint8_t *unit, size_t unit_length, size_t number);
+
+/* An object's fields; refuses as trawnosz_object_place. */
+trawnosz_typed trawnosz_read_object(const uint8_t *unit, size_t unit_length, size_t number);
+
+/* Where an object's description stands, for type 26 its text; an empty part, at the object's end, for a type without one.
+ * Refuses as trawnosz_object_place. */
+trawnosz_part trawnosz_description_place(const uint8_t *unit, size_t unit_length, size_t number);
+
+/* Writes one object of a unit whose type and n already stand, and no other byte; the description has 31 bytes for types 2
+ * and 7 and none for others. Refuses UNIT, TYPE, COUNT, SIZE, NUMBER, KIND, TEXT, TIME of the new label. */
+trawnosz_verdict trawnosz_write_object(uint8_t *unit, size_t unit_length, size_t number, trawnosz_fields fields,
+                                       const uint8_t *description, size_t description_length);
+
+/* Writes a unit of type 26 to the front of `out`, 3 bytes and the text. Refuses LENGTH (text over 255), ROOM. */
+trawnosz_verdict trawnosz_write_text(uint8_t *out, size_t out_length, const uint8_t *text, size_t text_length);
+
+/* ---- The exchange table, by value: each call hands the new table back in `state`. ---- */
+
+/* A fresh table; SETTING, with a table of zeros, where T is not 1 to 10 or R over 9. */
+trawnosz_made trawnosz_exchanges_fresh(uint8_t timeout, uint8_t resends);
+
+/* Open the lowest free place under the first serial, from the next one upward, that is not open. Refuse STATE, FULL. */
+trawnosz_begun trawnosz_begin_send(trawnosz_exchanges table);
+trawnosz_begun trawnosz_begin_request(trawnosz_exchanges table);
+
+/* The step of the exchange that the reply fits, with its place and outcome: a confirm fits a send, an answer a request, a
+ * deny either, a bad answer (command 5, refused at VERSION or later) a request. Refuse STATE, STRAY. */
+trawnosz_replied trawnosz_reply_confirm(trawnosz_exchanges table, uint16_t serial);
+trawnosz_replied trawnosz_reply_answer(trawnosz_exchanges table, uint16_t serial);
+trawnosz_replied trawnosz_reply_deny(trawnosz_exchanges table, uint16_t serial);
+trawnosz_replied trawnosz_reply_bad_answer(trawnosz_exchanges table, uint16_t serial);
+
+/* One tick of every place, each with its report. Refuses STATE. */
+trawnosz_ticked trawnosz_tick(trawnosz_exchanges table);
+
+/* ---- The device table. ---- */
+
+/* The judge of a device table: per section CUT of the count, MANY, CUT, then ORDER (for parts ORDER, ORPHAN) of each entry;
+ * TAIL last. */
+trawnosz_table trawnosz_judge_table(const uint8_t *table, size_t table_length);
+
+/* Where the description of a part stands in a table. Refuses as the table's judge, then UNLISTED. */
+trawnosz_part trawnosz_find_place(const uint8_t *table, size_t table_length, trawnosz_key key);
+
+#ifdef __cplusplus
+}
+#endif
+
+#endif

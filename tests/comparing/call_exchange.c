@@ -1,0 +1,111 @@
+/* The calls on exchange tables, beside their counterparts; the table is told as an input by its bytes in the order
+ * serial (low byte first), mode, resends, age of each place, then next, timeout, resends. */
+#include "comparing.h"
+
+static uint8_t told[16 * 5 + 4];
+
+static void name_table(struct trial *t, const char *call, const struct ind_book *book)
+{
+    size_t at = 0;
+    for (int i = 0; i < 16; i++) {
+        const struct ind_exchange *one = &book->exchange[i];
+        told[at++] = (uint8_t)one->serial;
+        told[at++] = (uint8_t)(one->serial >> 8);
+        told[at++] = one->mode;
+        told[at++] = one->resends;
+        told[at++] = one->age;
+    }
+    told[at++] = (uint8_t)book->next;
+    told[at++] = (uint8_t)(book->next >> 8);
+    told[at++] = book->timeout;
+    told[at++] = book->limit;
+    calling(t, call);
+    with_bytes("table", told, at);
+}
+
+struct ind_verdict both_exchanges_fresh(struct trial *t, struct ind_book *book, uint8_t timeout, uint8_t limit)
+{
+    struct answer a = {0}, b = {0};
+    calling(t, "trawnosz_exchanges_fresh");
+    with_number("timeout", timeout);
+    with_number("resends", limit);
+    struct ind_verdict mine = ind_make_book(book, timeout, limit);
+    tell_verdict(&a, mine);
+    tell_book(&a, book);
+    trawnosz_made theirs = trawnosz_exchanges_fresh(timeout, limit);
+    tell_their_verdict(&b, theirs.verdict);
+    tell_their_table(&b, &theirs.state);
+    agree(t, &a, &b);
+    return mine;
+}
+
+struct ind_turn both_begin(struct trial *t, struct ind_book *book, enum ind_mode mode)
+{
+    struct answer a = {0}, b = {0};
+    trawnosz_exchanges table = their_table(book);
+    name_table(t, mode == IND_SEND ? "trawnosz_begin_send" : "trawnosz_begin_request", book);
+    struct ind_turn mine = ind_begin(book, mode);
+    tell_verdict(&a, mine.verdict);
+    tell(&a, "taken place", mine.place);
+    tell(&a, "serial", mine.serial);
+    tell_book(&a, book);
+    trawnosz_begun theirs = mode == IND_SEND ? trawnosz_begin_send(table) : trawnosz_begin_request(table);
+    tell_their_verdict(&b, theirs.verdict);
+    tell(&b, "taken place", theirs.place);
+    tell(&b, "serial", theirs.serial);
+    tell_their_table(&b, &theirs.state);
+    agree(t, &a, &b);
+    return mine;
+}
+
+/* The four kinds of reply, in the order of `enum ind_told`. */
+static const struct {
+    const char *name;
+    trawnosz_replied (*call)(trawnosz_exchanges, uint16_t);
+} replies[] = {
+    {"trawnosz_reply_confirm", trawnosz_reply_confirm},
+    {"trawnosz_reply_answer", trawnosz_reply_answer},
+    {"trawnosz_reply_deny", trawnosz_reply_deny},
+    {"trawnosz_reply_bad_answer", trawnosz_reply_bad_answer},
+};
+
+struct ind_turn both_reply(struct trial *t, struct ind_book *book, enum ind_told told, uint16_t serial)
+{
+    struct answer a = {0}, b = {0};
+    trawnosz_exchanges table = their_table(book);
+    name_table(t, replies[told].name, book);
+    with_number("serial", serial);
+    struct ind_turn mine = ind_hear(book, told, serial);
+    tell_verdict(&a, mine.verdict);
+    tell(&a, "fitting place", mine.place);
+    tell(&a, "outcome", outcome_number(mine.outcome));
+    tell_book(&a, book);
+    trawnosz_replied theirs = replies[told].call(table, serial);
+    tell_their_verdict(&b, theirs.verdict);
+    tell(&b, "fitting place", theirs.place);
+    tell(&b, "outcome", theirs.outcome);
+    tell_their_table(&b, &theirs.state);
+    agree(t, &a, &b);
+    return mine;
+}
+
+struct ind_tick both_tick(struct trial *t, struct ind_book *book)
+{
+    struct answer a = {0}, b = {0};
+    trawnosz_exchanges table = their_table(book);
+    name_table(t, "trawnosz_tick", book);
+    struct ind_tick mine = ind_pass_time(book);
+    trawnosz_ticked theirs = trawnosz_tick(table);
+    tell_verdict(&a, mine.verdict);
+    tell_their_verdict(&b, theirs.verdict);
+    for (size_t i = 0; i < 16; i++) {
+        tell_of(&a, "report's outcome of place", i, outcome_number(mine.outcome[i]));
+        tell_of(&a, "report's serial of place", i, mine.serial[i]);
+        tell_of(&b, "report's outcome of place", i, theirs.reports[i].outcome);
+        tell_of(&b, "report's serial of place", i, theirs.reports[i].serial);
+    }
+    tell_book(&a, book);
+    tell_their_table(&b, &theirs.state);
+    agree(t, &a, &b);
+    return mine;
+}

@@ -1,0 +1,105 @@
+/* Writes a hostile stream and the listing that is expected of it: hostile SEED STREAM EXPECTED. */
+#include "comparing.h"
+
+#include <stdlib.h>
+#include <string.h>
+
+static struct stream stream;
+
+/* A packet whose frame is right and whose inside has one thing wrong, with its sum made right. */
+static void add_refused(struct trial *t, const struct made_type *type, size_t n, size_t at, uint8_t to, uint8_t command)
+{
+    uint8_t packet[MADE_MOST];
+    size_t unit_size = type ? make_unit(t, packet + 27, type, n) : 0;
+    make_head(t, packet, unit_size, command);
+    if (at > 0)
+        packet[at] = to;
+    seal(packet, unit_size);
+    add_bytes(&stream, packet, 30 + unit_size);
+}
+
+/* One packet for each refusal that the judge of a packet in a right frame gives. */
+static void add_each_refusal(struct trial *t)
+{
+    const struct made_type *clock = made_type_of(28);
+    add_refused(t, clock, 1, 4, 2, 2);
+    add_refused(t, clock, 1, 0, 0, 7);
+    add_refused(t, clock, 1, 9, 0, 2);
+    add_refused(t, clock, 1, 32, 0, 5);
+    add_refused(t, clock, 1, 0, 0, 3);
+    add_refused(t, NULL, 0, 0, 0, 2);
+    add_refused(t, clock, 1, 0, 0, 1);
+    add_refused(t, clock, 2, 0, 0, 2);
+    add_refused(t, clock, 1, 27, 1, 2);
+}
+
+/* Every type at n 1 and at its largest n. */
+static void add_each_type(struct trial *t)
+{
+    for (int i = 0; i < TYPES; i++) {
+        uint8_t command = make_command(t, made_types[i].type);
+        add_refused(t, &made_types[i], 1, 0, 0, command);
+        add_refused(t, &made_types[i], made_types[i].most, 0, 0, command);
+    }
+}
+
+static void make_stream(struct trial *t)
+{
+    add_each_type(t);
+    add_run(&stream, 0, 65535 + between(t, 1, 500));
+    add_each_refusal(t);
+    for (int i = 0; i < 100; i++)
+        add_segment(t, &stream);
+    add_packet(t, &stream);
+    add_run(&stream, '#', 65535 + 65534);
+    add_packet(t, &stream);
+    for (int i = 0; i < 40; i++)
+        add_segment(t, &stream);
+}
+
+/* A start of the longest L with too few bytes behind it, so that something is held at the end. */
+static void add_held(struct trial *t)
+{
+    uint8_t packet[MADE_MOST];
+    make_head(t, packet, 1024, 2);
+    fill(t, packet + 27, 1024);
+    add_run(&stream, 0, 1100);
+    add_bytes(&stream, packet, between(t, 26, 27 + 1024));
+}
+
+static FILE *open_file(const char *name)
+{
+    FILE *file = fopen(name, "wb");
+    if (!file) {
+        perror(name);
+        exit(1);
+    }
+    return file;
+}
+
+static void close_file(FILE *file, const char *name)
+{
+    if (ferror(file) || fclose(file) != 0) {
+        perror(name);
+        exit(1);
+    }
+}
+
+int main(int arguments, char **argument)
+{
+    if (arguments != 4) {
+        fprintf(stderr, "usage: SEED STREAM EXPECTED\n");
+        return 2;
+    }
+    struct trial t = {.seed = strtoull(argument[1], NULL, 10)};
+    start_random(&t);
+    make_stream(&t);
+    add_held(&t);
+    FILE *file = open_file(argument[2]);
+    fwrite(stream.bytes, 1, stream.size, file);
+    close_file(file, argument[2]);
+    file = open_file(argument[3]);
+    ind_list(file, stream.bytes, stream.size);
+    close_file(file, argument[3]);
+    return 0;
+}

@@ -1,0 +1,66 @@
+/* Units alone and under every command, and their objects by number. */
+#include "comparing.h"
+
+#include <string.h>
+
+static void ask_for_object(struct trial *t, const uint8_t *unit, size_t size, size_t number)
+{
+    both_object_place(t, unit, size, number);
+    both_read_object(t, unit, size, number);
+    both_description_place(t, unit, size, number);
+}
+
+/* The numbers that tell: the first, the last, one behind it, and numbers that are too large for anything. */
+static void ask_for_objects(struct trial *t, const uint8_t *unit, size_t size)
+{
+    static const size_t huge[] = {255, 256, 65536, (size_t)1 << 32, SIZE_MAX / 2, SIZE_MAX - 1, SIZE_MAX};
+    size_t n = size < 2 ? 1 : unit[1];
+    ask_for_object(t, unit, size, 0);
+    ask_for_object(t, unit, size, n - 1);
+    ask_for_object(t, unit, size, n);
+    ask_for_object(t, unit, size, below(t, n + 1));
+    ask_for_object(t, unit, size, huge[below(t, 7)]);
+}
+
+static void judge_under_commands(struct trial *t, const uint8_t *unit, size_t size)
+{
+    bool all = size < 64 && chance(t, 20);
+    for (unsigned command = 0; command <= (all ? 255 : 7); command++)
+        both_judge_unit_under(t, unit, size, (uint8_t)command);
+    both_judge_unit_under(t, unit, size, any_byte(t));
+}
+
+static void ask_all(struct trial *t, const uint8_t *unit, size_t size)
+{
+    both_judge_unit(t, unit, size);
+    judge_under_commands(t, unit, size);
+    ask_for_objects(t, unit, size);
+}
+
+void try_units(struct trial *t)
+{
+    uint8_t unit[MADE_MOST];
+    size_t size = make_any_unit(t, unit);
+    if (chance(t, 60))
+        spoil_unit(t, unit, &size);
+    if (chance(t, 20))
+        spoil_unit(t, unit, &size);
+    ask_all(t, unit, size);
+}
+
+/* Every length from 0 to 1,100 in turn, under a type and an n that mostly are in the table. */
+void try_unit_lengths(struct trial *t)
+{
+    uint8_t unit[MADE_MOST];
+    size_t size = t->turn % 1101;
+    fill(t, unit, sizeof unit);
+    const struct made_type *type = &made_types[below(t, TYPES)];
+    make_unit(t, unit, type, type->most);
+    if (type->type != 26 && chance(t, 60))
+        unit[1] = (uint8_t)((size < 2 ? 0 : size - 2) / type->size);
+    ask_all(t, unit, size);
+    unit[0] = 26;
+    unit[1] = 1;
+    unit[2] = (uint8_t)(size - 3);
+    ask_all(t, unit, size);
+}

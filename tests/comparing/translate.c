@@ -1,0 +1,138 @@
+/* The independent program's values as the library's, and both as lists of numbers. */
+#include "comparing.h"
+
+#include <string.h>
+
+trawnosz_label their_label(const uint8_t label[6])
+{
+    trawnosz_label theirs = {
+        .second = label[0], .minute = label[1], .hour = label[2], .day = label[3], .month = label[4], .year = label[5]
+    };
+    return theirs;
+}
+
+trawnosz_header their_header(const struct ind_packet *fields)
+{
+    trawnosz_header header = {
+        .serial = fields->serial, .version = fields->user_version, .label = their_label(fields->label),
+        .command = fields->command
+    };
+    memcpy(header.source, fields->source, 6);
+    memcpy(header.destination, fields->destination, 6);
+    return header;
+}
+
+trawnosz_fields their_fields(const struct ind_object *object)
+{
+    const uint32_t *number = object->number;
+    trawnosz_fields fields = {
+        .kind = object->kind,
+        .system = (uint8_t)number[IND_SYSTEM],
+        .address = (uint8_t)number[IND_ADDRESS],
+        .part = (uint8_t)number[IND_PART],
+        .place = number[IND_PLACE],
+        .value = (int16_t)(uint16_t)number[IND_VALUE],
+        .low = (uint8_t)number[IND_LOW],
+        .high = (uint8_t)number[IND_HIGH],
+        .analogue = (uint8_t)number[IND_ANALOGUE],
+        .operation = (uint8_t)number[IND_OPERATION],
+        .operator_ = (uint8_t)number[IND_OPERATOR],
+        .state = (uint8_t)number[IND_ONE_STATE],
+        .main = (uint8_t)number[IND_MAIN],
+        .minor = (uint8_t)number[IND_MINOR],
+        .label = their_label(object->label)
+    };
+    return fields;
+}
+
+trawnosz_exchanges their_table(const struct ind_book *book)
+{
+    trawnosz_exchanges table = {.next = book->next, .timeout = book->timeout, .resends = book->limit};
+    for (int i = 0; i < 16; i++) {
+        table.places[i].serial = book->exchange[i].serial;
+        table.places[i].mode = book->exchange[i].mode;
+        table.places[i].resends = book->exchange[i].resends;
+        table.places[i].age = book->exchange[i].age;
+    }
+    return table;
+}
+
+void tell_verdict(struct answer *answer, struct ind_verdict verdict)
+{
+    tell(answer, "number", verdict.refusal);
+    tell(answer, "place", verdict.place);
+}
+
+void tell_their_verdict(struct answer *answer, trawnosz_verdict verdict)
+{
+    tell(answer, "number", verdict.number);
+    tell(answer, "place", verdict.place);
+}
+
+void agree_verdict(struct trial *t, struct ind_verdict mine, trawnosz_verdict theirs)
+{
+    struct answer a = {0}, b = {0};
+    tell_verdict(&a, mine);
+    tell_their_verdict(&b, theirs);
+    agree(t, &a, &b);
+}
+
+void agree_part(struct trial *t, struct ind_span mine, trawnosz_part theirs)
+{
+    struct answer a = {0}, b = {0};
+    tell_verdict(&a, mine.verdict);
+    tell(&a, "from", mine.start);
+    tell(&a, "to", mine.start + mine.length);
+    tell_their_verdict(&b, theirs.verdict);
+    tell(&b, "from", theirs.from);
+    tell(&b, "to", theirs.to);
+    agree(t, &a, &b);
+}
+
+/* The new table in the order of the library's members. */
+void tell_their_table(struct answer *answer, const trawnosz_exchanges *table)
+{
+    for (size_t i = 0; i < 16; i++) {
+        tell_of(answer, "serial of place", i, table->places[i].serial);
+        tell_of(answer, "mode of place", i, table->places[i].mode);
+        tell_of(answer, "resends of place", i, table->places[i].resends);
+        tell_of(answer, "age of place", i, table->places[i].age);
+    }
+    tell(answer, "next", table->next);
+    tell(answer, "timeout", table->timeout);
+    tell(answer, "resends", table->resends);
+}
+
+void tell_book(struct answer *answer, const struct ind_book *book)
+{
+    trawnosz_exchanges table = their_table(book);
+    tell_their_table(answer, &table);
+}
+
+uint8_t outcome_number(enum ind_outcome outcome)
+{
+    static const uint8_t numbers[] = {
+        TRAWNOSZ_NOTHING, TRAWNOSZ_CONFIRMED, TRAWNOSZ_ANSWERED, TRAWNOSZ_RESENT, TRAWNOSZ_FAILED
+    };
+    return numbers[outcome];
+}
+
+uint8_t event_number(const struct ind_received *received)
+{
+    switch (received->event) {
+    case IND_MORE:
+        return TRAWNOSZ_EVENT_MORE;
+    case IND_NOISE:
+        return TRAWNOSZ_EVENT_NOISE;
+    case IND_PACKET:
+        return TRAWNOSZ_EVENT_PACKET;
+    case IND_EVENT_LENGTH:
+        return TRAWNOSZ_LENGTH;
+    case IND_EVENT_END:
+        return TRAWNOSZ_END;
+    case IND_EVENT_SUM:
+        return TRAWNOSZ_SUM;
+    default:
+        return (uint8_t)received->refusal;
+    }
+}

@@ -1,0 +1,163 @@
+/* Open exchanges. */
+#include "independent.h"
+
+#include <string.h>
+
+static const struct ind_exchange no_exchange;
+
+static bool settings_good(uint8_t timeout, uint8_t limit)
+{
+    return timeout >= 1 && timeout <= 10 && limit <= 9;
+}
+
+static bool place_sound(const struct ind_book *book, const struct ind_exchange *one)
+{
+    switch (one->mode) {
+    case IND_FREE:
+        return one->serial == 0 && one->resends == 0 && one->age == 0;
+    case IND_SEND:
+    case IND_REQUEST:
+        return one->age < book->timeout && one->resends <= book->limit;
+    default:
+        return false;
+    }
+}
+
+/* The place at which a serial is open, or 16. */
+static size_t open_at(const struct ind_book *book, uint16_t serial)
+{
+    size_t place = 0;
+    while (place < 16 && (book->exchange[place].mode == IND_FREE || book->exchange[place].serial != serial))
+        place++;
+    return place;
+}
+
+/* "STATE: T or R out of range, an open place with age T or more or resends above R, two open with one serial, a free
+ * place not zero." */
+static bool book_sound(const struct ind_book *book)
+{
+    if (!settings_good(book->timeout, book->limit))
+        return false;
+    for (size_t i = 0; i < 16; i++) {
+        const struct ind_exchange *one = &book->exchange[i];
+        if (!place_sound(book, one))
+            return false;
+        if (one->mode != IND_FREE && open_at(book, one->serial) != i)
+            return false;
+    }
+    return true;
+}
+
+/* "making a table: SETTING, with a table of zeros"; "A fresh table starts at serial 0". */
+struct ind_verdict ind_make_book(struct ind_book *book, uint8_t timeout, uint8_t limit)
+{
+    memset(book, 0, sizeof *book);
+    if (!settings_good(timeout, limit))
+        return ind_refuse(IND_SETTING);
+    book->timeout = timeout;
+    book->limit = limit;
+    return ind_good();
+}
+
+static size_t lowest_free(const struct ind_book *book)
+{
+    size_t place = 0;
+    while (place < 16 && book->exchange[place].mode != IND_FREE)
+        place++;
+    return place;
+}
+
+/* "the first serial, from the next one upward and past 65,535 to 0, that is not open; the one after it is then next". */
+struct ind_turn ind_begin(struct ind_book *book, enum ind_mode mode)
+{
+    struct ind_turn turn = {ind_good(), 0, 0, IND_NOTHING};
+    size_t place = lowest_free(book);
+    if (!book_sound(book))
+        turn.verdict = ind_refuse(IND_STATE);
+    else if (place == 16)
+        turn.verdict = ind_refuse(IND_FULL);
+    if (turn.verdict.refusal)
+        return turn;
+    uint16_t serial = book->next;
+    while (open_at(book, serial) < 16)
+        serial++;
+    book->exchange[place] = (struct ind_exchange){serial, (uint8_t)mode, 0, 0};
+    book->next = (uint16_t)(serial + 1);
+    turn.place = place;
+    turn.serial = serial;
+    return turn;
+}
+
+/* "with fewer than R resends it is resent, one resend more and age 0, else it has failed and is freed". */
+static enum ind_outcome denied(struct ind_exchange *one, uint8_t limit)
+{
+    if (one->resends < limit) {
+        one->resends++;
+        one->age = 0;
+        return IND_RESENT;
+    }
+    *one = no_exchange;
+    return IND_FAILED;
+}
+
+/* "Confirm fits a send of its serial, answer a request"; "Deny fits either, a bad answer fits a request". */
+static bool fits(enum ind_told told, uint8_t mode)
+{
+    switch (told) {
+    case IND_CONFIRM_CAME:
+        return mode == IND_SEND;
+    case IND_ANSWER_CAME:
+    case IND_BAD_ANSWER_CAME:
+        return mode == IND_REQUEST;
+    default:
+        return mode != IND_FREE;
+    }
+}
+
+static enum ind_outcome apply(enum ind_told told, struct ind_exchange *one, uint8_t limit)
+{
+    if (told == IND_DENY_CAME || told == IND_BAD_ANSWER_CAME)
+        return denied(one, limit);
+    *one = no_exchange;
+    return told == IND_CONFIRM_CAME ? IND_CONFIRMED : IND_ANSWERED;
+}
+
+struct ind_turn ind_hear(struct ind_book *book, enum ind_told told, uint16_t serial)
+{
+    struct ind_turn turn = {ind_good(), 0, 0, IND_NOTHING};
+    size_t place = open_at(book, serial);
+    if (!book_sound(book))
+        turn.verdict = ind_refuse(IND_STATE);
+    else if (place == 16 || !fits(told, book->exchange[place].mode))
+        turn.verdict = ind_refuse(IND_STRAY);
+    if (turn.verdict.refusal)
+        return turn;
+    turn.place = place;
+    turn.outcome = apply(told, &book->exchange[place], book->limit);
+    return turn;
+}
+
+/* "A tick adds 1 to each age; reaching T acts as deny." */
+static enum ind_outcome grow_older(struct ind_exchange *one, const struct ind_book *book)
+{
+    if (one->mode == IND_FREE)
+        return IND_NOTHING;
+    one->age++;
+    return one->age >= book->timeout ? denied(one, book->limit) : IND_NOTHING;
+}
+
+/* "The tick answers all sixteen places." */
+struct ind_tick ind_pass_time(struct ind_book *book)
+{
+    struct ind_tick tick;
+    memset(&tick, 0, sizeof tick);
+    if (!book_sound(book)) {
+        tick.verdict = ind_refuse(IND_STATE);
+        return tick;
+    }
+    for (size_t i = 0; i < 16; i++) {
+        tick.serial[i] = book->exchange[i].serial;
+        tick.outcome[i] = grow_older(&book->exchange[i], book);
+    }
+    return tick;
+}

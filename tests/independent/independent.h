@@ -1,0 +1,207 @@
+/* The independent program: the rules of document 01, written from that paper alone, to compare the library with. */
+#ifndef INDEPENDENT_H
+#define INDEPENDENT_H
+
+#include <stdbool.h>
+#include <stddef.h>
+#include <stdint.h>
+#include <stdio.h>
+
+/* "Refusal numbers", in the paper's order from 1. */
+enum ind_refusal {
+    IND_GOOD, IND_STATE, IND_ROOM, IND_CUT, IND_START, IND_LENGTH, IND_END, IND_SUM, IND_VERSION, IND_COMMAND, IND_TIME,
+    IND_UNIT, IND_TYPE, IND_COUNT, IND_SIZE, IND_NUMBER, IND_KIND, IND_TEXT, IND_SETTING, IND_FULL, IND_STRAY, IND_MANY,
+    IND_ORDER, IND_ORPHAN, IND_TAIL, IND_UNLISTED
+};
+
+/* A refusal and its place, both 0 where all is good. */
+struct ind_verdict {
+    enum ind_refusal refusal;
+    size_t place;
+};
+
+struct ind_verdict ind_good(void);
+struct ind_verdict ind_refuse(enum ind_refusal refusal);
+struct ind_verdict ind_refuse_at(enum ind_refusal refusal, size_t place);
+const char *ind_refusal_name(enum ind_refusal refusal);
+
+/* A part of the caller's bytes, by the place of its first byte and its length. */
+struct ind_span {
+    struct ind_verdict verdict;
+    size_t start;
+    size_t length;
+};
+
+struct ind_span ind_no_span(struct ind_verdict verdict);
+struct ind_span ind_span_at(size_t start, size_t length);
+
+/* Six bytes of a time label, in the order in which they stand in a packet. */
+bool ind_label_good(const uint8_t label[6]);
+
+/* ---- Types of units ---- */
+
+/* The letters of a body: each stands for one field of the paper's table, in the order in which the fields stand. */
+enum ind_field {
+    IND_SYSTEM = 's', IND_ADDRESS = 'a', IND_PART = 'p', IND_PLACE = 'P', IND_LOW = 'l', IND_HIGH = 'h',
+    IND_ANALOGUE = 'A', IND_VALUE = 'V', IND_OPERATION = 'o', IND_OPERATOR = 'u', IND_ONE_STATE = 't',
+    IND_MAIN = 'm', IND_MINOR = 'i', IND_DESCRIPTION = 'D', IND_TEXT_OF_26 = 'K', IND_LABEL = 'L'
+};
+
+struct ind_type {
+    uint8_t type;
+    const char *carried;
+    const char *body;
+    size_t most;
+};
+
+const struct ind_type *ind_type_of(uint8_t type);
+size_t ind_field_size(char field);
+size_t ind_object_size(const struct ind_type *type);
+bool ind_field_offset(const struct ind_type *type, char field, size_t *offset);
+
+/* ---- Units and objects ---- */
+
+/* The numbers of an object by the letter of their field; a field that the type does not have is 0. */
+struct ind_object {
+    struct ind_verdict verdict;
+    uint8_t kind;
+    uint32_t number[128];
+    uint8_t label[6];
+};
+
+struct ind_verdict ind_judge_shape(const uint8_t *unit, size_t size, const char *command);
+struct ind_verdict ind_judge_unit(const uint8_t *unit, size_t size);
+struct ind_verdict ind_judge_unit_under(const uint8_t *unit, size_t size, uint8_t command);
+struct ind_span ind_object_span(const uint8_t *unit, size_t size, size_t number);
+struct ind_span ind_description_span(const uint8_t *unit, size_t size, size_t number);
+struct ind_object ind_read_object(const uint8_t *unit, size_t size, size_t number);
+struct ind_verdict ind_write_object(uint8_t *unit, size_t size, size_t number, const struct ind_object *object,
+                                    const uint8_t *description, size_t description_size);
+struct ind_verdict ind_write_text(uint8_t *out, size_t room, const uint8_t *text, size_t text_size);
+
+/* ---- Packets ---- */
+
+struct ind_packet {
+    struct ind_verdict verdict;
+    uint16_t serial;
+    uint8_t user_version;
+    uint8_t label[6];
+    uint8_t source[6];
+    uint8_t destination[6];
+    uint8_t command;
+    size_t unit_size;
+};
+
+uint8_t ind_sum(const uint8_t *packet, size_t unit_size);
+unsigned ind_low_first(const uint8_t *two_bytes);
+struct ind_verdict ind_judge_packet(const uint8_t *packet, size_t size);
+struct ind_packet ind_read_packet(const uint8_t *packet, size_t size);
+struct ind_span ind_unit_span(const uint8_t *packet, size_t size);
+void ind_frame(uint8_t *out, const struct ind_packet *fields);
+struct ind_verdict ind_write_packet(uint8_t *out, size_t room, const struct ind_packet *fields);
+struct ind_verdict ind_write_packet_object(uint8_t *out, size_t room, size_t unit_size, size_t number,
+                                           const struct ind_object *object, const uint8_t *description,
+                                           size_t description_size);
+struct ind_verdict ind_write_packet_text(uint8_t *out, size_t room, const uint8_t *text, size_t text_size);
+
+/* ---- Replies ---- */
+
+struct ind_reply {
+    struct ind_verdict verdict;
+    uint8_t command;
+};
+
+struct ind_reply ind_answer_to(const uint8_t *packet, size_t size, const uint8_t label[6], uint8_t *out, size_t room);
+
+/* ---- The stream ---- */
+
+/* What the reading says at a position; LENGTH, END and SUM are refused starts. */
+enum ind_event { IND_MORE, IND_SKIP, IND_NOISE, IND_EVENT_LENGTH, IND_EVENT_END, IND_EVENT_SUM, IND_PACKET, IND_REFUSED };
+
+const char *ind_event_name(enum ind_event event);
+
+/* The reading of a stream: the position in it, the skipped count, and the last event with what it carries. */
+struct ind_reading {
+    size_t position;
+    size_t count;
+    enum ind_event event;
+    size_t carried;
+    size_t packet_at;
+    size_t packet_size;
+};
+
+/* Reads on from the position until an event, or MORE where the bytes that are there decide nothing. */
+void ind_read_on(struct ind_reading *reading, const uint8_t *stream, size_t size);
+
+/* A receiver's state, and a call on it. */
+struct ind_hold {
+    uint8_t row[1054];
+    size_t held;
+    size_t count;
+};
+
+struct ind_received {
+    enum ind_event event;
+    enum ind_refusal refusal;
+    size_t packet_size;
+    size_t carried;
+    size_t taken;
+};
+
+void ind_fresh_hold(struct ind_hold *hold);
+struct ind_received ind_receive(struct ind_hold *hold, const uint8_t *piece, size_t size, uint8_t *out, size_t room);
+
+/* Prints the listing of a whole stream. */
+void ind_list(FILE *to, const uint8_t *stream, size_t size);
+
+/* ---- Exchanges ---- */
+
+enum ind_mode { IND_FREE, IND_SEND, IND_REQUEST };
+enum ind_told { IND_CONFIRM_CAME, IND_ANSWER_CAME, IND_DENY_CAME, IND_BAD_ANSWER_CAME };
+enum ind_outcome { IND_NOTHING, IND_CONFIRMED, IND_ANSWERED, IND_RESENT, IND_FAILED };
+
+struct ind_exchange {
+    uint16_t serial;
+    uint8_t mode;
+    uint8_t resends;
+    uint8_t age;
+};
+
+struct ind_book {
+    struct ind_exchange exchange[16];
+    uint16_t next;
+    uint8_t timeout;
+    uint8_t limit;
+};
+
+/* What a call on the book answers beside the changed book. */
+struct ind_turn {
+    struct ind_verdict verdict;
+    size_t place;
+    uint16_t serial;
+    enum ind_outcome outcome;
+};
+
+struct ind_tick {
+    struct ind_verdict verdict;
+    enum ind_outcome outcome[16];
+    uint16_t serial[16];
+};
+
+struct ind_verdict ind_make_book(struct ind_book *book, uint8_t timeout, uint8_t limit);
+struct ind_turn ind_begin(struct ind_book *book, enum ind_mode mode);
+struct ind_turn ind_hear(struct ind_book *book, enum ind_told told, uint16_t serial);
+struct ind_tick ind_pass_time(struct ind_book *book);
+
+/* ---- The device table ---- */
+
+struct ind_devices {
+    struct ind_verdict verdict;
+    size_t systems;
+    size_t parts;
+};
+
+struct ind_devices ind_judge_devices(const uint8_t *table, size_t size);
+struct ind_span ind_find_part(const uint8_t *table, size_t size, const uint8_t key[7]);
+
+#endif

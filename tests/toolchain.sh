@@ -1,0 +1,58 @@
+# Sourced: the repository's root, Debian packages by name, a compiler and a runner for x86-64, and the library's archive.
+
+root=$(cd "$(dirname "${BASH_SOURCE[0]}")/.." && pwd -P)
+
+# Installs the named Debian packages; as root, or by sudo where that asks for nothing.
+install_packages() {
+    local sudo=()
+    [ "$(id -u)" -eq 0 ] || sudo=(sudo -n)
+    "${sudo[@]}" apt-get -qq update && "${sudo[@]}" env DEBIAN_FRONTEND=noninteractive apt-get -qq install -y "$@"
+}
+
+# need PACKAGE...: installs those of the named Debian packages that are missing.
+need() {
+    local package missing=()
+    for package in "$@"; do
+        dpkg -s "$package" 2>/dev/null | grep '^Status: .* installed$' >/dev/null || missing+=("$package")
+    done
+    [ ${#missing[@]} -gt 0 ] || return 0
+    if ! install_packages "${missing[@]}" </dev/null >/dev/null 2>&1; then
+        printf 'cannot install the Debian packages that are needed: %s\n' "${missing[*]}" >&2
+        return 1
+    fi
+}
+
+# The archive holds x86-64 code: elsewhere it is linked by Debian's cross compiler and run by its emulator.
+if [ "$(uname -m)" = x86_64 ]; then
+    need gcc libc6-dev
+    cc=(gcc)
+    run=()
+else
+    need gcc-x86-64-linux-gnu libc6-dev-amd64-cross qemu-user
+    cc=(x86_64-linux-gnu-gcc)
+    run=(qemu-x86_64 -L /usr/x86_64-linux-gnu)
+fi
+
+# Where the library's archive is: the repository's own, or the one that TRAWNOSZ_ARCHIVE names.
+library=${TRAWNOSZ_ARCHIVE:-$root/target/staticlib/libtrawnosz.a}
+
+# Makes the archive where it is missing or older than its source; shows what rt said only where it fails.
+archive() {
+    if [ -n "${TRAWNOSZ_ARCHIVE:-}" ]; then
+        [ -r "$library" ] || { printf 'TRAWNOSZ_ARCHIVE names no file: %s\n' "$library" >&2; return 1; }
+        return 0
+    fi
+    if [ -e "$library" ] && [ -z "$(find "$root/crates.txt" "$root/crates" -newer "$library" -print -quit)" ]; then
+        return 0
+    fi
+    if ! command -v rt >/dev/null; then
+        printf 'the command rt of the Rattle kit is needed and is not on the PATH\n' >&2
+        return 1
+    fi
+    local said
+    if ! said=$(cd "$root" && rt staticlib trawnosz </dev/null 2>&1) || [ ! -e "$library" ]; then
+        printf '%s\nthe library could not be built\n' "$said" >&2
+        return 1
+    fi
+    touch "$library"
+}
