@@ -35,12 +35,30 @@ pub fn clear(s: &[u8]) -> bool
 {
     let n = s.len();
     let mut i: usize = 0;
-    while 256 <= n - i {
-        if !zeros(&s[i..i + 256]) {
+    while 512 <= n - i {
+        if !zeros(&s[i..i + 512]) {
             return false;
         }
-        i = i + 256;
+        i = i + 512;
     }
+    while 128 <= n - i {
+        if !zeros(&s[i..i + 128]) {
+            return false;
+        }
+        i = i + 128;
+    }
+    if 128 <= n {
+        return zeros(&s[n - 128..n]);
+    }
+    clear_few(s)
+}
+
+// The same of fewer bytes, by small blocks.
+fn clear_few(s: &[u8]) -> bool
+    ensures { λ r. ⌜ r ≡ allZero (now (s .entry)) ⌝ }
+{
+    let n = s.len();
+    let mut i: usize = 0;
     while 16 <= n - i {
         if !zeros(&s[i..i + 16]) {
             return false;
@@ -81,7 +99,7 @@ fn unmarked(s: &[u8]) -> bool
     hit == 0
 }
 
-// The bytes before the first 64: by blocks, then one by one.
+// The bytes before the first 64: by blocks, then by smaller ones.
 fn plain(s: &[u8]) -> usize
     ensures { λ r. ⌜ r ≡ plainRun (now (s .entry)) ⌝ }
 {
@@ -90,9 +108,21 @@ fn plain(s: &[u8]) -> usize
     }
     let n = s.len();
     let mut i: usize = 0;
-    while 256 <= n - i && unmarked(&s[i..i + 256]) {
-        i = i + 256;
+    while 1024 <= n - i && unmarked(&s[i..i + 1024]) {
+        i = i + 1024;
     }
+    while 128 <= n - i && unmarked(&s[i..i + 128]) {
+        i = i + 128;
+    }
+    i + plain_few(&s[i..])
+}
+
+// The same by small blocks, then one by one.
+fn plain_few(s: &[u8]) -> usize
+    ensures { λ r. ⌜ r ≡ plainRun (now (s .entry)) ⌝ }
+{
+    let n = s.len();
+    let mut i: usize = 0;
     while 16 <= n - i && unmarked(&s[i..i + 16]) {
         i = i + 16;
     }

@@ -32,26 +32,26 @@ unfolding every
 loop-holds c = (refl, omega arith, refl)
 
 returns : tie.Need-returns Inv-loop μ-loop Inv-loop2 μ-loop2
-returns c = every-fails isZero (c .before .before .before .before .before .before .args .s .now) (c .before .before .before .before .loop .i) (c .before .before .before .before .loop .i + 256 - c .before .before .before .before .loop .i) (off (c .before .zeros .ensures) (c .if1 .taken))
+returns c = every-fails isZero (c .before .before .before .before .before .before .args .s .now) (c .before .before .before .before .loop .i) (c .before .before .before .before .loop .i + 512 - c .before .before .before .before .loop .i) (off (c .before .zeros .ensures) (c .if1 .taken))
 
 loop-again : tie.Need-loop-again Inv-loop μ-loop Inv-loop2 μ-loop2
 loop-again c = (
   c .before .before .before .before .loop .inv .0,
   omega arith,
-  every-block isZero (c .before .before .before .before .before .before .args .s .now) (c .before .before .before .before .loop .i) 256 (c .before .before .before .before .loop .inv .2) (on (c .before .zeros .ensures) (c .if1 .left)),
+  every-block isZero (c .before .before .before .before .before .before .args .s .now) (c .before .before .before .before .loop .i) 512 (c .before .before .before .before .loop .inv .2) (on (c .before .zeros .ensures) (c .if1 .left)),
 )
 
 loop2-holds : tie.Need-loop2-holds Inv-loop μ-loop Inv-loop2 μ-loop2
 loop2-holds c = c .before .loop .inv
 
 returns-2 : tie.Need-returns-2 Inv-loop μ-loop Inv-loop2 μ-loop2
-returns-2 c = every-fails isZero (c .before .before .before .before .before .before .before .before .args .s .now) (c .before .before .before .before .loop2 .i) (c .before .before .before .before .loop2 .i + 16 - c .before .before .before .before .loop2 .i) (off (c .before .zeros2 .ensures) (c .if2 .taken))
+returns-2 c = every-fails isZero (c .before .before .before .before .before .before .before .before .args .s .now) (c .before .before .before .before .loop2 .i) (c .before .before .before .before .loop2 .i + 128 - c .before .before .before .before .loop2 .i) (off (c .before .zeros2 .ensures) (c .if2 .taken))
 
 loop2-again : tie.Need-loop2-again Inv-loop μ-loop Inv-loop2 μ-loop2
 loop2-again c = (
   c .before .before .before .before .loop2 .inv .0,
   omega arith,
-  every-block isZero (c .before .before .before .before .before .before .before .before .args .s .now) (c .before .before .before .before .loop2 .i) 16 (c .before .before .before .before .loop2 .inv .2) (on (c .before .zeros2 .ensures) (c .if2 .left)),
+  every-block isZero (c .before .before .before .before .before .before .before .before .args .s .now) (c .before .before .before .before .loop2 .i) 128 (c .before .before .before .before .loop2 .inv .2) (on (c .before .zeros2 .ensures) (c .if2 .left)),
 )
 
 returns-3 : tie.Need-returns-3 Inv-loop μ-loop Inv-loop2 μ-loop2
@@ -59,11 +59,11 @@ returns-3 c =
     let s = c .before .before .before .before .before .before .before .before .args .s .now in
     let n = length s in
     c .zeros3 .ensures
-    ∙ ap allZero (rest-is s (n - 16))
-    ∙ every-rest isZero s (n - 16) (c .before .before .before .before .loop2 .i) (omega arith) (c .before .before .before .before .loop2 .inv .2)
+    ∙ ap allZero (rest-is s (n - 128))
+    ∙ every-rest isZero s (n - 128) (c .before .before .before .before .loop2 .i) (omega arith) (c .before .before .before .before .loop2 .inv .2)
 
 returns-4 : tie.Need-returns-4 Inv-loop μ-loop Inv-loop2 μ-loop2
-returns-4 c = c .zeros4 .ensures
+returns-4 c = c .clear-few .ensures
 
 pub clear-spec : {M : Type 1} → statement M
 clear-spec =
