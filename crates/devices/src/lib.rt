@@ -117,7 +117,7 @@ fn first_bytes(table: &[u8], z: Section, from: usize, i: usize, count: usize) ->
     ensures { λ r. ⌜ now r ≡ firstBytes z (now (table .entry)) from i count ⌝ }
 {
     let at = entry_at(z, from, i);
-    octets::part_of(table, at, at + count)
+    &table[at..at + count]
 }
 
 // Whether entry `i` stands above the one before it.
