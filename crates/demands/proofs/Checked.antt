@@ -15,7 +15,7 @@ use Rattle.octets.specs.Sums.{total}
 use Rattle.octets.proofs.Examples.{A}
 use Rattle.packet.specs.Frames.{judgedContent, judgedPacket}
 use Rattle.packet.proofs.Examples.{B}
-use Rattle.place.specs.Rules.{isZero, holds, keeps}
+use Rattle.place.specs.Rules.{isOpen, isZero, holds, keeps}
 use Rattle.place.specs.Steps.{denied, ticked, codeOf}
 use Rattle.places.specs.declared.Report.{Report}
 use Rattle.places.specs.Rows.{lowestFree, isOpenAs, twice, allKeep, serialFor, swept}
@@ -107,5 +107,5 @@ checked =
     ∷ []
 
 pub checked-so : map (λ (e : List ℕ × List ℕ). e .0) checked ≡ map (λ (e : List ℕ × List ℕ). e .1) checked
-unfolding judgedPacket judgedContent judgedUnder judgedUnit inOrder rows findRow textSize endOf walk timely judged inRanges firstFit anyFits lowFirst part total called answerBy sound every padTo first foundIn more noise hit onward stands started judgedFrame summed ended unitLength whenThere room told packetOf made found begun ticking legal lowestFree isOpenAs twice allKeep serialFor swept isZero holds keeps denied ticked
+unfolding judgedPacket judgedContent judgedUnder judgedUnit inOrder rows findRow textSize endOf walk timely judged inRanges firstFit anyFits lowFirst part total called answerBy sound every padTo first foundIn more noise hit onward stands started judgedFrame summed ended unitLength whenThere room told packetOf made found begun ticking legal lowestFree isOpenAs twice allKeep serialFor swept isOpen isZero holds keeps denied ticked
 checked-so = refl

@@ -37,9 +37,9 @@ use Rattle.packet.proofs.read.Reads as packet-read
 use Rattle.packet.proofs.unit_place.Reads as packet-unit-place
 use Rattle.reading.proofs.Event.told.Reads as reading-event-told
 use Rattle.receiver.proofs.Receiver.fresh.Reads as receiver-receiver-fresh
-use Rattle.place.proofs.Mode.is_open.Reads as place-mode-is-open
-use Rattle.place.proofs.Mode.awaits.Reads as place-mode-awaits
-use Rattle.place.proofs.Outcome.code.Reads as place-outcome-code
+use Rattle.place.proofs.is_open.Reads as place-is-open
+use Rattle.place.proofs.awaits.Reads as place-awaits
+use Rattle.place.proofs.all_outcomes.Reads as place-all-outcomes
 use Rattle.place.proofs.Place.free.Reads as place-place-free
 use Rattle.place.proofs.Place.holds.Reads as place-place-holds
 use Rattle.place.proofs.Place.keeps.Reads as place-place-keeps
@@ -65,10 +65,6 @@ use Rattle.devices.proofs.find_place.Reads as devices-find-place
 use Rattle.reply.proofs.Due.command.Reads as reply-due-command
 use Rattle.flat.proofs.flat_of.Reads as flat-flat-of
 use Rattle.flat.proofs.fields_from.Reads as flat-fields-from
-use Rattle.coded.proofs.CodedExchanges.fresh.Reads as coded-exchanges-fresh
-use Rattle.coded.proofs.CodedExchanges.begin.Reads as coded-exchanges-begin
-use Rattle.coded.proofs.CodedExchanges.reply.Reads as coded-exchanges-reply
-use Rattle.coded.proofs.CodedExchanges.tick.Reads as coded-exchanges-tick
 use Rattle.octets.proofs.wide.Reads as octets-wide
 
 pub octets-byte-at-determined : (κs : _) (x : _) (r s : _) → octets-byte-at.Post κs x r x → octets-byte-at.Post κs x s x → r ≡ s
@@ -179,14 +175,11 @@ reading-event-told-determined κs x r s a b = a ∙ sym b
 pub receiver-receiver-fresh-determined : (κs : _) (x : _) (r s : _) → receiver-receiver-fresh.Post κs x r x → receiver-receiver-fresh.Post κs x s x → r ≡ s
 receiver-receiver-fresh-determined κs x r s a b = a ∙ sym b
 
-pub place-mode-is-open-determined : (κs : _) (x : _) (r s : _) → place-mode-is-open.Post κs x r x → place-mode-is-open.Post κs x s x → r ≡ s
-place-mode-is-open-determined κs x r s a b = a ∙ sym b
+pub place-is-open-determined : (κs : _) (x : _) (r s : _) → place-is-open.Post κs x r x → place-is-open.Post κs x s x → r ≡ s
+place-is-open-determined κs x r s a b = a ∙ sym b
 
-pub place-mode-awaits-determined : (κs : _) (x : _) (r s : _) → place-mode-awaits.Post κs x r x → place-mode-awaits.Post κs x s x → r ≡ s
-place-mode-awaits-determined κs x r s a b = a ∙ sym b
-
-pub place-outcome-code-determined : (κs : _) (x : _) (r s : _) → place-outcome-code.Post κs x r x → place-outcome-code.Post κs x s x → r ≡ s
-place-outcome-code-determined κs x r s a b = a ∙ sym b
+pub place-awaits-determined : (κs : _) (x : _) (r s : _) → place-awaits.Post κs x r x → place-awaits.Post κs x s x → r ≡ s
+place-awaits-determined κs x r s a b = a ∙ sym b
 
 pub place-place-free-determined : (κs : _) (x : _) (r s : _) → place-place-free.Post κs x r x → place-place-free.Post κs x s x → r ≡ s
 place-place-free-determined κs x r s a b = a ∙ sym b
@@ -266,14 +259,5 @@ flat-flat-of-determined κs x r s a b = a ∙ sym b
 pub flat-fields-from-determined : (κs : _) (x : _) (r s : _) → flat-fields-from.Post κs x r x → flat-fields-from.Post κs x s x → r ≡ s
 flat-fields-from-determined κs x r s a b = a ∙ sym b
 
-pub coded-exchanges-fresh-determined : (κs : _) (x : _) (r s : _) → coded-exchanges-fresh.Post κs x r x → coded-exchanges-fresh.Post κs x s x → r ≡ s
-coded-exchanges-fresh-determined κs x r s a b = a ∙ sym b
-
-pub coded-exchanges-begin-determined : (κs : _) (x : _) (r s : _) → coded-exchanges-begin.Post κs x r x → coded-exchanges-begin.Post κs x s x → r ≡ s
-coded-exchanges-begin-determined κs x r s a b = a ∙ sym b
-
-pub coded-exchanges-reply-determined : (κs : _) (x : _) (r s : _) → coded-exchanges-reply.Post κs x r x → coded-exchanges-reply.Post κs x s x → r ≡ s
-coded-exchanges-reply-determined κs x r s a b = a ∙ sym b
-
-pub coded-exchanges-tick-determined : (κs : _) (x : _) (r s : _) → coded-exchanges-tick.Post κs x r x → coded-exchanges-tick.Post κs x s x → r ≡ s
-coded-exchanges-tick-determined κs x r s a b = a ∙ sym b
+pub place-all-outcomes-determined : (κs : _) (x : _) (r s : _) → place-all-outcomes.Post κs x r x → place-all-outcomes.Post κs x s x → r ≡ s
+place-all-outcomes-determined κs x r s a b = a ∙ sym b

@@ -8,9 +8,8 @@ use lib.ListN.{set, replicate}
 use Rattle.verdict.specs.Refusals.{STATE, SETTING, FULL, STRAY}
 use Rattle.verdict.specs.Orders.{good, refusal, isGood, inOrder}
 use Rattle.place.specs.declared.Reply.{Reply}
-use Rattle.place.specs.declared.Outcome.the-variants.{Nothing}
 use Rattle.place.specs.declared.Step.{Step}
-use Rattle.place.specs.Steps.{replied}
+use Rattle.place.specs.Steps.{NOTHING, replied}
 use Rattle.exchange.specs.declared.Exchanges.{Exchanges}
 use Rattle.exchange.specs.declared.Told.{Told}
 use Rattle.exchange.specs.declared.Found.{Found}
@@ -71,12 +70,12 @@ module _ (x : Exchanges) where
 
   -- a reply
   module _ (s : ℕ) (w : Reply) where
-    pub answered-state : legal x ≡ false → answered x s w ≡ record { verdict = refusal STATE 0; place = 0; outcome = Nothing; state = x }
+    pub answered-state : legal x ≡ false → answered x s w ≡ record { verdict = refusal STATE 0; place = 0; outcome = NOTHING; state = x }
     unfolding answered inOrder
     answered-state e = simp e
 
     pub answered-stray : legal x ≡ true → 16 ≤ fitting (x .places) 0 16 s w
-        → answered x s w ≡ record { verdict = refusal STRAY 0; place = 0; outcome = Nothing; state = x }
+        → answered x s w ≡ record { verdict = refusal STRAY 0; place = 0; outcome = NOTHING; state = x }
     unfolding answered inOrder
     answered-stray e h = simp (e, le-ltb (fitting (x .places) 0 16 s w) 16 h)
 

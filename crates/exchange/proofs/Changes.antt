@@ -12,9 +12,8 @@ use Rattle.octets.proofs.Searches.{first-fits, first-none}
 use Rattle.verdict.specs.Orders.{good, isGood, inOrder}
 use Rattle.place.specs.declared.Place.{Place}
 use Rattle.place.specs.declared.Reply.{Reply}
-use Rattle.place.specs.declared.Outcome.the-variants.{Nothing}
 use Rattle.place.specs.Rules.{opened, isOpen}
-use Rattle.place.specs.Steps.{ticked, replied}
+use Rattle.place.specs.Steps.{NOTHING, ticked, replied}
 use Rattle.exchange.specs.declared.Exchanges.{Exchanges}
 use Rattle.exchange.specs.declared.Told.{Told}
 use Rattle.exchange.specs.declared.Begun.{Begun}
@@ -36,7 +35,7 @@ module _ (x : Exchanges) where
   begin-refused m e = simp e
 
   pub reply-refused : (s : ℕ) (w : Reply) → isGood (answered x s w .verdict) ≡ false
-      → answered x s w ≡ record { verdict = answered x s w .verdict; place = 0; outcome = Nothing; state = x }
+      → answered x s w ≡ record { verdict = answered x s w .verdict; place = 0; outcome = NOTHING; state = x }
   unfolding answered
   reply-refused s w e = simp e
 

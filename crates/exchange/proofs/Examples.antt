@@ -6,12 +6,10 @@ use lib.ListN.{getD, take, replicate}
 use Rattle.octets.specs.Searches.{firstFit, anyFits}
 use Rattle.verdict.specs.Orders.{inOrder}
 use Rattle.verdict.specs.Refusals.{STATE, SETTING, FULL, STRAY}
-use Rattle.place.specs.declared.Mode.the-variants.{Free, Send, Request}
 use Rattle.place.specs.declared.Place.{Place}
 use Rattle.place.specs.declared.Reply.the-variants.{Confirm, Answer, Deny, BadAnswer}
-use Rattle.place.specs.declared.Outcome.the-variants.{Confirmed, Answered, Resent, Failed}
-use Rattle.place.specs.Rules.{opened, free, isZero, holds, keeps}
-use Rattle.place.specs.Steps.{counted, denied, ticked, fits, replied, codeOf}
+use Rattle.place.specs.Rules.{FREE, SEND, REQUEST, opened, free, isOpen, isZero, holds, keeps}
+use Rattle.place.specs.Steps.{CONFIRMED, ANSWERED, RESENT, FAILED, counted, denied, ticked, fits, replied}
 use Rattle.exchange.specs.declared.Exchanges.{Exchanges}
 use Rattle.exchange.specs.declared.Told.the-variants as told
 use Rattle.places.specs.declared.Report.{Report}
@@ -23,9 +21,9 @@ use Rattle.exchange.specs.Calls.{Call, begin, reply, tick, after, run}
 -- place and the outcome, of a tick the serial told of the first place and the outcome of each
 abbrev answer : Exchanges → Call → List ℕ
 answer x (begin m) = begun x m .verdict .number ∷ begun x m .place ∷ begun x m .serial ∷ begun x m .state .next ∷ []
-answer x (reply s w) = answered x s w .verdict .number ∷ answered x s w .place ∷ codeOf (answered x s w .outcome) ∷ []
+answer x (reply s w) = answered x s w .verdict .number ∷ answered x s w .place ∷ answered x s w .outcome ∷ []
 answer x tick =
-    ticking x .verdict .number ∷ getD (ticking x .reports) 0 nothing .serial ∷ map (λ (r : Report). codeOf (r .outcome)) (ticking x .reports)
+    ticking x .verdict .number ∷ getD (ticking x .reports) 0 nothing .serial ∷ map (λ (r : Report). r .outcome) (ticking x .reports)
 
 abbrev answers : Exchanges → List Call → List (List ℕ)
 answers x [] = []
@@ -70,32 +68,34 @@ broken x =
 abbrev pub examples : List Example
 examples =
     -- 6. "T 1, R 0: begin, tick: failed"
-    example (made 1 0 .state) (begin told.Send ∷ tick ∷ []) ((0 ∷ 0 ∷ 0 ∷ 1 ∷ []) ∷ first 0 (codeOf Failed) ∷ []) both-free
+    example (made 1 0 .state) (begin told.Send ∷ tick ∷ []) ((0 ∷ 0 ∷ 0 ∷ 1 ∷ []) ∷ first 0 FAILED ∷ []) both-free
     -- 7. "T 1, R 1: resend, then failed"
-    ∷ example (made 1 1 .state) (begin told.Request ∷ tick ∷ tick ∷ []) ((0 ∷ 0 ∷ 0 ∷ 1 ∷ []) ∷ first 0 (codeOf Resent) ∷ first 0 (codeOf Failed) ∷ []) both-free
+    ∷ example (made 1 1 .state) (begin told.Request ∷ tick ∷ tick ∷ []) ((0 ∷ 0 ∷ 0 ∷ 1 ∷ []) ∷ first 0 RESENT ∷ first 0 FAILED ∷ []) both-free
     -- 8. "Next serial 65,535 gives 65,535, then 0"
-    ∷ example (table [] 65535 1 0) (begin told.Send ∷ begin told.Request ∷ []) ((0 ∷ 0 ∷ 65535 ∷ 0 ∷ []) ∷ (0 ∷ 1 ∷ 0 ∷ 1 ∷ []) ∷ []) (opened 65535 Send ∷ opened 0 Request ∷ [])
+    ∷ example (table [] 65535 1 0) (begin told.Send ∷ begin told.Request ∷ []) ((0 ∷ 0 ∷ 65535 ∷ 0 ∷ []) ∷ (0 ∷ 1 ∷ 0 ∷ 1 ∷ []) ∷ []) (opened 65535 SEND ∷ opened 0 REQUEST ∷ [])
     -- the next serial may itself be open: with 65,535 and 0 open, 1 is given and 2 is next
-    ∷ example (table (opened 65535 Send ∷ free ∷ opened 0 Request ∷ []) 65535 1 0) (begin told.Send ∷ []) ((0 ∷ 1 ∷ 1 ∷ 2 ∷ []) ∷ []) (opened 65535 Send ∷ opened 1 Send ∷ [])
+    ∷ example (table (opened 65535 SEND ∷ free ∷ opened 0 REQUEST ∷ []) 65535 1 0) (begin told.Send ∷ []) ((0 ∷ 1 ∷ 1 ∷ 2 ∷ []) ∷ []) (opened 65535 SEND ∷ opened 1 SEND ∷ [])
     -- a tick ages open places only, and after a resend the age is 0
-    ∷ example (made 2 1 .state) (begin told.Send ∷ tick ∷ tick ∷ []) ((0 ∷ 0 ∷ 0 ∷ 1 ∷ []) ∷ first 0 0 ∷ first 0 (codeOf Resent) ∷ []) (counted 1 0 (opened 0 Send) ∷ free ∷ [])
-    ∷ example (made 2 1 .state) (begin told.Send ∷ tick ∷ tick ∷ tick ∷ tick ∷ []) ((0 ∷ 0 ∷ 0 ∷ 1 ∷ []) ∷ first 0 0 ∷ first 0 (codeOf Resent) ∷ first 0 0 ∷ first 0 (codeOf Failed) ∷ []) both-free
+    ∷ example (made 2 1 .state) (begin told.Send ∷ tick ∷ tick ∷ []) ((0 ∷ 0 ∷ 0 ∷ 1 ∷ []) ∷ first 0 0 ∷ first 0 RESENT ∷ []) (counted 1 0 (opened 0 SEND) ∷ free ∷ [])
+    ∷ example (made 2 1 .state) (begin told.Send ∷ tick ∷ tick ∷ tick ∷ tick ∷ []) ((0 ∷ 0 ∷ 0 ∷ 1 ∷ []) ∷ first 0 0 ∷ first 0 RESENT ∷ first 0 0 ∷ first 0 FAILED ∷ []) both-free
     -- a failed place is zeroed, and its serial is told
-    ∷ example (table (opened 7 Send ∷ []) 9 1 0) (tick ∷ tick ∷ []) (first 7 (codeOf Failed) ∷ first 0 0 ∷ []) both-free
+    ∷ example (table (opened 7 SEND ∷ []) 9 1 0) (tick ∷ tick ∷ []) (first 7 FAILED ∷ first 0 0 ∷ []) both-free
     -- a send: an answer and a bad answer are stray, a denial fails it, and then it is no more
-    ∷ example (table (opened 7 Send ∷ []) 0 1 0) (reply 7 Answer ∷ reply 7 BadAnswer ∷ reply 6 Confirm ∷ reply 7 Deny ∷ reply 7 Confirm ∷ []) (no-reply STRAY ∷ no-reply STRAY ∷ no-reply STRAY ∷ (0 ∷ 0 ∷ codeOf Failed ∷ []) ∷ no-reply STRAY ∷ []) both-free
+    ∷ example (table (opened 7 SEND ∷ []) 0 1 0) (reply 7 Answer ∷ reply 7 BadAnswer ∷ reply 6 Confirm ∷ reply 7 Deny ∷ reply 7 Confirm ∷ []) (no-reply STRAY ∷ no-reply STRAY ∷ no-reply STRAY ∷ (0 ∷ 0 ∷ FAILED ∷ []) ∷ no-reply STRAY ∷ []) both-free
     -- a confirm frees it
-    ∷ example (table (opened 7 Send ∷ opened 8 Send ∷ []) 0 1 0) (reply 8 Confirm ∷ []) ((0 ∷ 1 ∷ codeOf Confirmed ∷ []) ∷ []) (opened 7 Send ∷ free ∷ [])
+    ∷ example (table (opened 7 SEND ∷ opened 8 SEND ∷ []) 0 1 0) (reply 8 Confirm ∷ []) ((0 ∷ 1 ∷ CONFIRMED ∷ []) ∷ []) (opened 7 SEND ∷ free ∷ [])
     -- a request: a confirm is stray, a bad answer resends it, and an answer ends it
-    ∷ example (table (free ∷ opened 7 Request ∷ []) 0 1 1) (reply 7 Confirm ∷ reply 7 BadAnswer ∷ []) (no-reply STRAY ∷ (0 ∷ 1 ∷ codeOf Resent ∷ []) ∷ []) (free ∷ counted 1 0 (opened 7 Request) ∷ [])
-    ∷ example (table (free ∷ opened 7 Request ∷ []) 0 1 1) (reply 7 Answer ∷ []) ((0 ∷ 1 ∷ codeOf Answered ∷ []) ∷ []) both-free
+    ∷ example (table (free ∷ opened 7 REQUEST ∷ []) 0 1 1) (reply 7 Confirm ∷ reply 7 BadAnswer ∷ []) (no-reply STRAY ∷ (0 ∷ 1 ∷ RESENT ∷ []) ∷ []) (free ∷ counted 1 0 (opened 7 REQUEST) ∷ [])
+    ∷ example (table (free ∷ opened 7 REQUEST ∷ []) 0 1 1) (reply 7 Answer ∷ []) ((0 ∷ 1 ∷ ANSWERED ∷ []) ∷ []) both-free
     -- sixteen are open
-    ∷ example (table (map (λ (s : ℕ). opened s Send) (0 ∷ 1 ∷ 2 ∷ 3 ∷ 4 ∷ 5 ∷ 6 ∷ 7 ∷ 8 ∷ 9 ∷ 10 ∷ 11 ∷ 12 ∷ 13 ∷ 14 ∷ 15 ∷ [])) 3 1 0) (begin told.Send ∷ []) (no-begin FULL 3 ∷ []) (opened 0 Send ∷ opened 1 Send ∷ [])
-    -- STATE: a free place with serial 7; age T; resends R + 1; one serial open as a send and as a request; T 0 or 11; R 10
-    ∷ broken (table (opened 7 Free ∷ []) 0 1 0)
-    ∷ broken (table (counted 0 2 (opened 7 Send) ∷ []) 0 2 0)
-    ∷ broken (table (counted 1 0 (opened 7 Send) ∷ []) 0 2 0)
-    ∷ broken (table (opened 7 Send ∷ opened 7 Request ∷ []) 0 2 0)
+    ∷ example (table (map (λ (s : ℕ). opened s SEND) (0 ∷ 1 ∷ 2 ∷ 3 ∷ 4 ∷ 5 ∷ 6 ∷ 7 ∷ 8 ∷ 9 ∷ 10 ∷ 11 ∷ 12 ∷ 13 ∷ 14 ∷ 15 ∷ [])) 3 1 0) (begin told.Send ∷ []) (no-begin FULL 3 ∷ []) (opened 0 SEND ∷ opened 1 SEND ∷ [])
+    -- STATE: a free place with serial 7; a mode that is none of the three; age T; resends R + 1; one serial open as a send and as a request; T 0 or 11; R 10
+    ∷ broken (table (opened 7 FREE ∷ []) 0 1 0)
+    ∷ broken (table (opened 7 3 ∷ []) 0 1 0)
+    ∷ broken (table (free ∷ opened 0 255 ∷ []) 0 1 0)
+    ∷ broken (table (counted 0 2 (opened 7 SEND) ∷ []) 0 2 0)
+    ∷ broken (table (counted 1 0 (opened 7 SEND) ∷ []) 0 2 0)
+    ∷ broken (table (opened 7 SEND ∷ opened 7 REQUEST ∷ []) 0 2 0)
     ∷ broken (table [] 0 0 0)
     ∷ broken (table [] 0 11 0)
     ∷ broken (table [] 0 1 10)
@@ -113,7 +113,7 @@ abbrev pub expected : Example → List (List ℕ) × List Place
 expected e = (e .told, e .left)
 
 pub answered-so : map comes-out examples ≡ map expected examples
-unfolding made found begun answered ticking legal lowestFree isOpenAs twice allKeep serialFor fitting swept after run isZero holds keeps denied ticked fits replied inOrder firstFit anyFits
+unfolding isOpen made found begun answered ticking legal lowestFree isOpenAs twice allKeep serialFor fitting swept after run isZero holds keeps denied ticked fits replied inOrder firstFit anyFits
 answered-so = refl
 
 -- making a table: T 0 or 11, R 10; the ends of the ranges; a refused one is of zeros

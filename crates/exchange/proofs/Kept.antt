@@ -13,7 +13,6 @@ use Rattle.octets.proofs.Searches.{first-fits}
 use Rattle.verdict.specs.declared.Verdict.{Verdict}
 use Rattle.verdict.specs.Refusals.{STATE}
 use Rattle.verdict.specs.Orders.{isGood}
-use Rattle.place.specs.declared.Mode.{Mode}
 use Rattle.place.specs.declared.Place.{Place}
 use Rattle.place.specs.declared.Reply.{Reply}
 use Rattle.place.specs.Rules.{opened, free, isOpen, holds, keeps}
@@ -66,11 +65,11 @@ some t r e =
 -- a tick leaves a free place free and tells nothing of it, so that it takes each place by the rule for one
 module _ (t r : ℕ) (ps : List Place) (k : ℕ) where
   pub aged-at : placeAt (map (aged t r) ps) k ≡ aged t r (placeAt ps k)
-  unfolding ticked
+  unfolding ticked isOpen
   aged-at = List·getD-map (aged t r) ps k free
 
   pub told-at : getD (map (report t r) ps) k nothing ≡ report t r (placeAt ps k)
-  unfolding ticked
+  unfolding ticked isOpen
   told-at = List·getD-map (report t r) ps k free
 
 -- a fresh table keeps them
@@ -93,7 +92,7 @@ module _ (x : Exchanges) (sound : Sound x) where
   inside k h = omega (arith, sound .long)
 
   -- an exchange entered under a serial that is not open
-  pub entered-sound : (k s : ℕ) (m : Mode) → k < 16 → isOpenAs (x .places) 0 16 s ≡ false → isOpen m ≡ true → Sound (entered x k s m)
+  pub entered-sound : (k s : ℕ) (m : ℕ) → k < 16 → isOpenAs (x .places) 0 16 s ≡ false → isOpen m ≡ true → Sound (entered x k s m)
   entered-sound k s m h none o =
       record {
         long = length-set (x .places) k (opened s m) ∙ sound .long;
@@ -126,6 +125,7 @@ unfolding fitting
 fitting-fits ps s w h = first-fits (fitsAt ps s w) 0 16 h
 
 mode-open : (m : Told) → isOpen (modeOf m) ≡ true
+unfolding isOpen
 mode-open told.Send = refl
 mode-open told.Request = refl
 

@@ -8,12 +8,9 @@ use lib.ListN.{set, replicate}
 use Rattle.verdict.specs.Refusals.{STATE, SETTING, FULL, STRAY}
 use Rattle.verdict.specs.Orders.{Test, good, isGood, inOrder, _or-else_}
 use Rattle.place.specs.declared.Place.{Place}
-use Rattle.place.specs.declared.Mode.{Mode}
-use Rattle.place.specs.declared.Mode.the-variants.{Send, Request}
 use Rattle.place.specs.declared.Reply.{Reply}
-use Rattle.place.specs.declared.Outcome.the-variants.{Nothing}
-use Rattle.place.specs.Rules.{free, opened}
-use Rattle.place.specs.Steps.{replied}
+use Rattle.place.specs.Rules.{SEND, REQUEST, free, opened}
+use Rattle.place.specs.Steps.{NOTHING, replied}
 use Rattle.exchange.specs.declared.Exchanges.{Exchanges}
 use Rattle.exchange.specs.declared.Told.{Told}
 use Rattle.exchange.specs.declared.Told.the-variants as told
@@ -65,14 +62,14 @@ abbrev pub placed : Exchanges → List Place → Exchanges
 placed x ps = record { places = ps; next = x .next; timeout = x .timeout; resends = x .resends }
 
 -- the table with an exchange entered at a place: "the one after it is then next"
-abbrev pub entered : Exchanges → ℕ → ℕ → Mode → Exchanges
+abbrev pub entered : Exchanges → ℕ → ℕ → ℕ → Exchanges
 entered x k s m =
     record { places = set (x .places) k (opened s m); next = upward s 1; timeout = x .timeout; resends = x .resends }
 
 -- "Begin, told send or request"
-abbrev pub modeOf : Told → Mode
-modeOf told.Send = Send
-modeOf told.Request = Request
+abbrev pub modeOf : Told → ℕ
+modeOf told.Send = SEND
+modeOf told.Request = REQUEST
 
 unfoldable pub begun : Exchanges → Told → Begun
 begun x m =
@@ -97,7 +94,7 @@ answered x s w =
     record {
       verdict = v;
       place = cond (isGood v) k 0;
-      outcome = cond (isGood v) (step .outcome) Nothing;
+      outcome = cond (isGood v) (step .outcome) NOTHING;
       state = cond (isGood v) (placed x (set (x .places) k (step .place))) x;
     }
 

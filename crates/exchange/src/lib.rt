@@ -2,10 +2,11 @@
 ghost use mathlib.Core.Path.{_≡_};
 ghost use Prim.Native.Nat.{_<_};
 ghost use Rattle.exchange.specs.Table.{inRange, legal, made, modeOf, found, entered, begun, answered, ticking};
-use place::Mode;
-use place::Outcome;
+use place::NOTHING;
 use place::Place;
+use place::REQUEST;
 use place::Reply;
+use place::SEND;
 use places::Report;
 use verdict::FULL;
 use verdict::SETTING;
@@ -14,6 +15,7 @@ use verdict::STRAY;
 use verdict::Verdict;
 
 // The sixteen places, the serial to try first, and the two settings.
+#[repr(C)]
 pub struct Exchanges {
     pub places: [Place; 16],
     pub next: u16,
@@ -27,6 +29,7 @@ pub enum Told {
     Request,
 }
 
+#[repr(C)]
 pub struct Made {
     pub verdict: Verdict,
     pub state: Exchanges,
@@ -39,6 +42,7 @@ struct Found {
     serial: u16,
 }
 
+#[repr(C)]
 pub struct Begun {
     pub verdict: Verdict,
     pub place: usize,
@@ -46,13 +50,15 @@ pub struct Begun {
     pub state: Exchanges,
 }
 
+#[repr(C)]
 pub struct Replied {
     pub verdict: Verdict,
     pub place: usize,
-    pub outcome: Outcome,
+    pub outcome: u8,
     pub state: Exchanges,
 }
 
+#[repr(C)]
 pub struct Ticked {
     pub verdict: Verdict,
     pub reports: [Report; 16],
@@ -136,7 +142,7 @@ impl Exchanges {
     }
 
     // The table with an exchange entered at a place.
-    fn enter(self, place: usize, serial: u16, mode: Mode) -> Exchanges
+    fn enter(self, place: usize, serial: u16, mode: u8) -> Exchanges
         requires { ⌜ place < 16 ⌝ }
         ensures { λ r. ⌜ r ≡ entered self place serial mode ⌝ }
     {
@@ -187,7 +193,7 @@ impl Exchanges {
             return Replied {
                 verdict: Verdict::refused(STATE, 0),
                 place: 0,
-                outcome: Outcome::Nothing,
+                outcome: NOTHING,
                 state: self,
             };
         }
@@ -197,19 +203,18 @@ impl Exchanges {
             return Replied {
                 verdict: Verdict::refused(STRAY, 0),
                 place: 0,
-                outcome: Outcome::Nothing,
+                outcome: NOTHING,
                 state: self,
             };
         }
         let p = places[place];
         let step = p.replied(reply, self.resends);
-        let outcome = step.outcome;
         let now = step.place;
         places[place] = now;
         Replied {
             verdict: Verdict::good(),
             place,
-            outcome,
+            outcome: step.outcome,
             state: Exchanges {
                 places,
                 next: self.next,
@@ -227,7 +232,7 @@ impl Exchanges {
             return Ticked {
                 verdict: Verdict::refused(STATE, 0),
                 reports: [Report {
-                    outcome: Outcome::Nothing,
+                    outcome: NOTHING,
                     serial: 0,
                 }; 16],
                 state: self,
@@ -251,12 +256,12 @@ impl Exchanges {
 }
 
 impl Told {
-    fn mode(self) -> Mode
+    fn mode(self) -> u8
         ensures { λ r. ⌜ r ≡ modeOf self ⌝ }
     {
         match self {
-            Told::Send => Mode::Send,
-            Told::Request => Mode::Request,
+            Told::Send => SEND,
+            Told::Request => REQUEST,
         }
     }
 }

@@ -1,29 +1,19 @@
--- The outcomes' numbers: no two are the same, and none is a number that document 01 or 02 uses, 1 to 31. Assumes nothing.
-use Prim.Native.Nat.{ℕ}
-use mathlib.Core.Bool.{true, _||_, cond}
-use mathlib.Core.Path.{_≡_, refl, sym, ap, _∙_}
+-- The outcomes' numbers: no two are the same, and none is a number that document 01 or 02 uses, 1 to 31. By computation. Assumes nothing.
+use Prim.Native.Nat.{ℕ, _<_, _≤_}
+use mathlib.Core.Bool.{Bool, true, _&&_, _||_}
+use mathlib.Core.List.{List, [], _∷_}
+use mathlib.Core.Path.{_≡_, refl}
 use lib.Dec.{eqb, ltb}
-use Rattle.place.specs.declared.Outcome.{Outcome}
-use Rattle.place.specs.declared.Outcome.the-variants.{Nothing, Confirmed, Answered, Resent, Failed}
-use Rattle.place.specs.Steps.{codeOf}
+use Rattle.place.specs.Steps.{outcomes}
 
-pub outside : (o : Outcome) → eqb (codeOf o) 0 || ltb 31 (codeOf o) ≡ true
-outside Nothing = refl
-outside Confirmed = refl
-outside Answered = refl
-outside Resent = refl
-outside Failed = refl
+-- each above the one before and, but for the first, above 31
+abbrev rising : ℕ → List ℕ → Bool
+rising n [] = true
+rising n (o ∷ os) = ltb n o && ltb 31 o && rising o os
 
-outcomeOf : ℕ → Outcome
-outcomeOf n = cond (eqb n 40) Confirmed (cond (eqb n 41) Answered (cond (eqb n 42) Resent (cond (eqb n 43) Failed Nothing)))
+abbrev pub fromZero : List ℕ → Bool
+fromZero [] = true
+fromZero (o ∷ os) = eqb o 0 && rising o os
 
-back : (o : Outcome) → outcomeOf (codeOf o) ≡ o
-unfolding outcomeOf
-back Nothing = refl
-back Confirmed = refl
-back Answered = refl
-back Resent = refl
-back Failed = refl
-
-pub distinct : (o u : Outcome) → codeOf o ≡ codeOf u → o ≡ u
-distinct o u e = sym (back o) ∙ ap outcomeOf e ∙ back u
+pub outside-and-distinct : fromZero outcomes ≡ true
+outside-and-distinct = refl

@@ -6,14 +6,11 @@ use mathlib.Core.Bool.{Bool, true, false, cond, and-eq-true-iff, false≢true}
 use mathlib.Core.Path.{_≡_, refl, sym, _∙_}
 use borrow.Author.Tests.{ltb-true, leb-true, eqb-true, lt-ltb, le-leb, eq-eqb}
 use lib.Dec.{ltb, leb, eqb}
-use Rattle.place.specs.declared.Mode.{Mode}
-use Rattle.place.specs.declared.Mode.the-variants.{Free, Send, Request}
 use Rattle.place.specs.declared.Place.{Place}
 use Rattle.place.specs.declared.Reply.{Reply}
 use Rattle.place.specs.declared.Reply.the-variants.{Confirm, Answer, Deny, BadAnswer}
-use Rattle.place.specs.declared.Outcome.the-variants.{Nothing, Resent, Failed}
-use Rattle.place.specs.Rules.{free, isOpen, isZero, holds, keeps}
-use Rattle.place.specs.Steps.{counted, becomes, denied, ticked, awaits, fits, replied}
+use Rattle.place.specs.Rules.{REQUEST, SEND, free, isOpen, isZero, holds, keeps}
+use Rattle.place.specs.Steps.{NOTHING, RESENT, FAILED, counted, becomes, denied, ticked, awaits, fits, replied}
 
 -- a place that holds a serial is open, and the serial is its own
 pub holds-is : (s : ℕ) (p : Place) → holds s p ≡ true → (isOpen (p .mode) ≡ true) × (p .serial ≡ s)
@@ -27,10 +24,12 @@ unfolding holds
 open-holds p o = simp (o, eq-eqb (p .serial) (p .serial) refl)
 
 -- a reply fits open places only, and only under its serial
-pub awaits-open : (m : Mode) (w : Reply) → awaits m w ≡ true → isOpen m ≡ true
-awaits-open Free w h = h
-awaits-open Send w h = refl
-awaits-open Request w h = refl
+pub awaits-open : (m : ℕ) (w : Reply) → awaits m w ≡ true → isOpen m ≡ true
+unfolding isOpen
+awaits-open m Confirm h = simp h
+awaits-open m Answer h = simp (eqb-true m REQUEST h)
+awaits-open m Deny h = h
+awaits-open m BadAnswer h = simp (eqb-true m REQUEST h)
 
 pub fits-holds : (s : ℕ) (w : Reply) (p : Place) → fits s w p ≡ true → holds s p ≡ true
 unfolding fits holds
@@ -40,7 +39,7 @@ fits-holds s w p h =
 
 -- a free place is open under no serial
 pub free-holds : (s : ℕ) → holds s free ≡ false
-unfolding holds
+unfolding holds isOpen
 free-holds s = refl
 
 -- counts do not touch the serial
@@ -54,7 +53,7 @@ module _ (s r : ℕ) (p : Place) where
   unfolding denied
   denied-holds = by-test (ltb (p .resends) r)
     where
-      by-test : (b : Bool) → holds s (cond b (becomes (counted (p .resends + 1) 0 p) Resent) (becomes free Failed) .place) ≡ true → holds s p ≡ true
+      by-test : (b : Bool) → holds s (cond b (becomes (counted (p .resends + 1) 0 p) RESENT) (becomes free FAILED) .place) ≡ true → holds s p ≡ true
       by-test true h = sym (counted-holds s (p .resends + 1) 0 p) ∙ h
       by-test false h = absurd (false≢true (sym (free-holds s) ∙ h))
 
@@ -70,7 +69,7 @@ module _ (s r : ℕ) (p : Place) where
   ticked-holds t = by-test (isOpen (p .mode)) (ltb (p .age + 1) t)
     where
       by-test : (o b : Bool)
-          → holds s (cond o (cond b (becomes (counted (p .resends) (p .age + 1) p) Nothing) (denied r p)) (becomes p Nothing) .place) ≡ true
+          → holds s (cond o (cond b (becomes (counted (p .resends) (p .age + 1) p) NOTHING) (denied r p)) (becomes p NOTHING) .place) ≡ true
           → holds s p ≡ true
       by-test true true h = sym (counted-holds s (p .resends) (p .age + 1) p) ∙ h
       by-test true false h = denied-holds h
@@ -82,7 +81,7 @@ unfolding keeps
 open-keeps t r p o a h = simp (o, lt-ltb (p .age) t a, le-leb (p .resends) r h)
 
 pub free-keeps : (t r : ℕ) → keeps t r free ≡ true
-unfolding keeps isZero
+unfolding keeps isZero isOpen
 free-keeps t r = refl
 
 pub open-kept : (t r : ℕ) (p : Place) → isOpen (p .mode) ≡ true → keeps t r p ≡ true → (p .age < t) × (p .resends ≤ r)
@@ -98,7 +97,7 @@ module _ (t r : ℕ) (p : Place) (some : 1 ≤ t) where
   denied-keeps o = by-test (ltb (p .resends) r) refl
     where
       by-test : (b : Bool) → ltb (p .resends) r ≡ b
-          → keeps t r (cond b (becomes (counted (p .resends + 1) 0 p) Resent) (becomes free Failed) .place) ≡ true
+          → keeps t r (cond b (becomes (counted (p .resends + 1) 0 p) RESENT) (becomes free FAILED) .place) ≡ true
       by-test true e =
           let h = ltb-true (p .resends) r e in
           open-keeps t r (counted (p .resends + 1) 0 p) o (omega arith) (omega arith)
@@ -116,7 +115,7 @@ module _ (t r : ℕ) (p : Place) (some : 1 ≤ t) where
   ticked-keeps k = by-test (isOpen (p .mode)) refl (ltb (p .age + 1) t) refl
     where
       by-test : (o : Bool) → isOpen (p .mode) ≡ o → (b : Bool) → ltb (p .age + 1) t ≡ b
-          → keeps t r (cond o (cond b (becomes (counted (p .resends) (p .age + 1) p) Nothing) (denied r p)) (becomes p Nothing) .place) ≡ true
+          → keeps t r (cond o (cond b (becomes (counted (p .resends) (p .age + 1) p) NOTHING) (denied r p)) (becomes p NOTHING) .place) ≡ true
       by-test true o true e =
           open-keeps t r (counted (p .resends) (p .age + 1) p) o (ltb-true (p .age + 1) t e) (open-kept t r p o k .1)
       by-test true o false e = denied-keeps o

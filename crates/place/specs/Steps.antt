@@ -1,47 +1,58 @@
 -- What becomes of one place (document 01, "Open exchanges"; 001, 6.5), and what is told of it.
 -- Assumes nothing.
 use Prim.Native.Nat.{ℕ, _+_}
-use mathlib.Core.Bool.{Bool, true, false, _&&_, cond}
+use mathlib.Core.Bool.{Bool, _&&_, cond}
+use mathlib.Core.List.{List, [], _∷_}
 use lib.Dec.{ltb, eqb}
-use Rattle.place.specs.declared.Mode.{Mode}
-use Rattle.place.specs.declared.Mode.the-variants.{Free, Send, Request}
 use Rattle.place.specs.declared.Place.{Place}
 use Rattle.place.specs.declared.Reply.{Reply}
 use Rattle.place.specs.declared.Reply.the-variants.{Confirm, Answer, Deny, BadAnswer}
-use Rattle.place.specs.declared.Outcome.{Outcome}
-use Rattle.place.specs.declared.Outcome.the-variants.{Nothing, Confirmed, Answered, Resent, Failed}
 use Rattle.place.specs.declared.Step.{Step}
-use Rattle.place.specs.Rules.{free, isOpen}
+use Rattle.place.specs.Rules.{SEND, REQUEST, free, isOpen}
+
+-- the outcomes' numbers, our own: none is a refusal of documents 01 and 02, which end at 31
+abbrev pub NOTHING : ℕ
+NOTHING = 0
+
+abbrev pub CONFIRMED : ℕ
+CONFIRMED = 40
+
+abbrev pub ANSWERED : ℕ
+ANSWERED = 41
+
+abbrev pub RESENT : ℕ
+RESENT = 42
+
+abbrev pub FAILED : ℕ
+FAILED = 43
+
+abbrev pub outcomes : List ℕ
+outcomes = NOTHING ∷ CONFIRMED ∷ ANSWERED ∷ RESENT ∷ FAILED ∷ []
 
 -- a place with other counts
 abbrev pub counted : ℕ → ℕ → Place → Place
 counted n a p = record { serial = p .serial; mode = p .mode; resends = n; age = a }
 
-abbrev pub becomes : Place → Outcome → Step
+abbrev pub becomes : Place → ℕ → Step
 becomes p o = record { place = p; outcome = o }
 
 -- "with fewer than R resends it is resent, one resend more and age 0, else it has failed and is freed"
 unfoldable pub denied : ℕ → Place → Step
-denied r p = cond (ltb (p .resends) r) (becomes (counted (p .resends + 1) 0 p) Resent) (becomes free Failed)
+denied r p = cond (ltb (p .resends) r) (becomes (counted (p .resends + 1) 0 p) RESENT) (becomes free FAILED)
 
 -- "A tick adds 1 to each age; reaching T acts as deny": the age of an open place
 unfoldable pub ticked : ℕ → ℕ → Place → Step
 ticked t r p =
     cond (isOpen (p .mode))
-    (cond (ltb (p .age + 1) t) (becomes (counted (p .resends) (p .age + 1) p) Nothing) (denied r p))
-    (becomes p Nothing)
+    (cond (ltb (p .age + 1) t) (becomes (counted (p .resends) (p .age + 1) p) NOTHING) (denied r p))
+    (becomes p NOTHING)
 
 -- "Confirm fits a send .., answer a request .. Deny fits either, a bad answer .. fits a request"
-abbrev pub awaits : Mode → Reply → Bool
-awaits Free w = false
-awaits Send Confirm = true
-awaits Send Answer = false
-awaits Send Deny = true
-awaits Send BadAnswer = false
-awaits Request Confirm = false
-awaits Request Answer = true
-awaits Request Deny = true
-awaits Request BadAnswer = true
+abbrev pub awaits : ℕ → Reply → Bool
+awaits m Confirm = eqb m SEND
+awaits m Answer = eqb m REQUEST
+awaits m Deny = isOpen m
+awaits m BadAnswer = eqb m REQUEST
 
 -- "of its serial"
 unfoldable pub fits : ℕ → Reply → Place → Bool
@@ -49,15 +60,7 @@ fits s w p = awaits (p .mode) w && eqb (p .serial) s
 
 -- what a reply that fits makes of the place: "the place is freed", or the rule of a denial
 unfoldable pub replied : ℕ → Reply → Place → Step
-replied r Confirm p = becomes free Confirmed
-replied r Answer p = becomes free Answered
+replied r Confirm p = becomes free CONFIRMED
+replied r Answer p = becomes free ANSWERED
 replied r Deny p = denied r p
 replied r BadAnswer p = denied r p
-
--- the outcomes' numbers, our own: none is a refusal of documents 01 and 02, which end at 31
-abbrev pub codeOf : Outcome → ℕ
-codeOf Nothing = 0
-codeOf Confirmed = 40
-codeOf Answered = 41
-codeOf Resent = 42
-codeOf Failed = 43

@@ -1,18 +1,30 @@
 // One place of the exchange table, and what a reply and a tick make of it.
 ghost use mathlib.Core.Path.{_≡_};
 ghost use Rattle.place.specs.Rules.{free, isOpen, isZero, holds, keeps};
-ghost use Rattle.place.specs.Steps.{awaits, denied, ticked, fits, replied, codeOf};
+ghost use Rattle.place.specs.Steps.{outcomes, awaits, denied, ticked, fits, replied};
 
-// Free stands first, so that a place of zeros is the free one.
-pub enum Mode {
-    Free,
-    Send,
-    Request,
-}
+// A mode is a number, as C sees it; free is 0, so that a place of zeros is the free one.
+pub const FREE: u8 = 0;
 
+pub const SEND: u8 = 1;
+
+pub const REQUEST: u8 = 2;
+
+// What is told of an exchange, in numbers that no refusal has.
+pub const NOTHING: u8 = 0;
+
+pub const CONFIRMED: u8 = 40;
+
+pub const ANSWERED: u8 = 41;
+
+pub const RESENT: u8 = 42;
+
+pub const FAILED: u8 = 43;
+
+#[repr(C)]
 pub struct Place {
     pub serial: u16,
-    pub mode: Mode,
+    pub mode: u8,
     pub resends: u8,
     pub age: u8,
 }
@@ -25,67 +37,38 @@ pub enum Reply {
     BadAnswer,
 }
 
-// What is told of an exchange.
-pub enum Outcome {
-    Nothing,
-    Confirmed,
-    Answered,
-    Resent,
-    Failed,
-}
-
 // What a place becomes, and what is told of it.
 pub struct Step {
     pub place: Place,
-    pub outcome: Outcome,
+    pub outcome: u8,
 }
 
-impl Mode {
-    // Whether a place of this mode holds an exchange.
-    pub fn is_open(self) -> bool
-        ensures { λ r. ⌜ r ≡ isOpen self ⌝ }
-    {
-        match self {
-            Mode::Free => false,
-            Mode::Send => true,
-            Mode::Request => true,
-        }
-    }
-
-    // Whether an exchange of this mode waits for such a reply.
-    pub fn awaits(self, reply: Reply) -> bool
-        ensures { λ r. ⌜ r ≡ awaits self reply ⌝ }
-    {
-        match self {
-            Mode::Free => false,
-            Mode::Send => match reply {
-                Reply::Confirm => true,
-                Reply::Answer => false,
-                Reply::Deny => true,
-                Reply::BadAnswer => false,
-            },
-            Mode::Request => match reply {
-                Reply::Confirm => false,
-                Reply::Answer => true,
-                Reply::Deny => true,
-                Reply::BadAnswer => true,
-            },
-        }
-    }
+// Every outcome, in the order of their numbers.
+pub fn all_outcomes() -> [u8; 5]
+    ensures { λ r. ⌜ r ≡ outcomes ⌝ }
+{
+    [NOTHING, CONFIRMED, ANSWERED, RESENT, FAILED]
 }
 
-impl Outcome {
-    // The outcome's number.
-    pub fn code(self) -> u8
-        ensures { λ r. ⌜ r ≡ codeOf self ⌝ }
-    {
-        match self {
-            Outcome::Nothing => 0,
-            Outcome::Confirmed => 40,
-            Outcome::Answered => 41,
-            Outcome::Resent => 42,
-            Outcome::Failed => 43,
-        }
+// Whether a place of this mode holds an exchange.
+pub fn is_open(mode: u8) -> bool
+    ensures { λ r. ⌜ r ≡ isOpen mode ⌝ }
+{
+    if mode == SEND {
+        return true;
+    }
+    mode == REQUEST
+}
+
+// Whether an exchange of this mode waits for such a reply.
+pub fn awaits(mode: u8, reply: Reply) -> bool
+    ensures { λ r. ⌜ r ≡ awaits mode reply ⌝ }
+{
+    match reply {
+        Reply::Confirm => mode == SEND,
+        Reply::Answer => mode == REQUEST,
+        Reply::Deny => is_open(mode),
+        Reply::BadAnswer => mode == REQUEST,
     }
 }
 
@@ -96,7 +79,7 @@ impl Place {
     {
         Place {
             serial: 0,
-            mode: Mode::Free,
+            mode: FREE,
             resends: 0,
             age: 0,
         }
@@ -106,8 +89,7 @@ impl Place {
     pub fn holds(self, serial: u16) -> bool
         ensures { λ r. ⌜ r ≡ holds serial self ⌝ }
     {
-        let mode = self.mode;
-        if !mode.is_open() {
+        if !is_open(self.mode) {
             return false;
         }
         self.serial == serial
@@ -117,8 +99,7 @@ impl Place {
     pub fn keeps(self, timeout: u8, resends: u8) -> bool
         ensures { λ r. ⌜ r ≡ keeps timeout resends self ⌝ }
     {
-        let mode = self.mode;
-        if mode.is_open() {
+        if is_open(self.mode) {
             if self.age < timeout {
                 return self.resends <= resends;
             }
@@ -133,6 +114,9 @@ impl Place {
         if self.serial != 0 {
             return false;
         }
+        if self.mode != FREE {
+            return false;
+        }
         if self.resends != 0 {
             return false;
         }
@@ -143,22 +127,21 @@ impl Place {
     pub fn denied(self, resends: u8) -> Step
         ensures { λ r. ⌜ r ≡ denied resends self ⌝ }
     {
-        let mode = self.mode;
         let freed = Place::free();
         if self.resends < resends {
             return Step {
                 place: Place {
                     serial: self.serial,
-                    mode,
+                    mode: self.mode,
                     resends: self.resends + 1,
                     age: 0,
                 },
-                outcome: Outcome::Resent,
+                outcome: RESENT,
             };
         }
         Step {
             place: freed,
-            outcome: Outcome::Failed,
+            outcome: FAILED,
         }
     }
 
@@ -166,22 +149,21 @@ impl Place {
     pub fn ticked(self, timeout: u8, resends: u8) -> Step
         ensures { λ r. ⌜ r ≡ ticked timeout resends self ⌝ }
     {
-        let mode = self.mode;
-        if !mode.is_open() {
+        if !is_open(self.mode) {
             return Step {
                 place: self,
-                outcome: Outcome::Nothing,
+                outcome: NOTHING,
             };
         }
         if (self.age as u16) + 1 < (timeout as u16) {
             return Step {
                 place: Place {
                     serial: self.serial,
-                    mode,
+                    mode: self.mode,
                     resends: self.resends,
                     age: self.age + 1,
                 },
-                outcome: Outcome::Nothing,
+                outcome: NOTHING,
             };
         }
         self.denied(resends)
@@ -191,8 +173,7 @@ impl Place {
     pub fn fits(self, serial: u16, reply: Reply) -> bool
         ensures { λ r. ⌜ r ≡ fits serial reply self ⌝ }
     {
-        let mode = self.mode;
-        if !mode.awaits(reply) {
+        if !awaits(self.mode, reply) {
             return false;
         }
         self.serial == serial
@@ -205,11 +186,11 @@ impl Place {
         match reply {
             Reply::Confirm => Step {
                 place: Place::free(),
-                outcome: Outcome::Confirmed,
+                outcome: CONFIRMED,
             },
             Reply::Answer => Step {
                 place: Place::free(),
-                outcome: Outcome::Answered,
+                outcome: ANSWERED,
             },
             Reply::Deny => self.denied(resends),
             Reply::BadAnswer => self.denied(resends),

@@ -12,7 +12,6 @@ use lib.ListN.{length, set}
 use lib.Seq.{getD-set-same, getD-set-other}
 use Rattle.octets.specs.Searches.{anyFits}
 use Rattle.octets.proofs.Searches.{any-none}
-use Rattle.place.specs.declared.Mode.{Mode}
 use Rattle.place.specs.declared.Place.{Place}
 use Rattle.place.specs.Rules.{opened, free, isOpen, holds}
 use Rattle.place.proofs.Kept.{holds-is, open-holds}
@@ -102,7 +101,7 @@ module _ (ps : List Place) (at : ℕ) (p : Place) where
       by-test false e = subst⁻¹ (P k) (unchanged k (eqb-false k at e)) (old k)
 
 -- a serial that was not open, opened
-module _ (ps : List Place) (from to at s : ℕ) (m : Mode) where
+module _ (ps : List Place) (from to at s : ℕ) (m : ℕ) where
   opened-holds : at < length ps → (x k : ℕ) → holdsAt (set ps at (opened s m)) x k ≡ true → ((k ≡ at) × (s ≡ x)) ⊎ (holdsAt ps x k ≡ true)
   opened-holds h x =
       each-place ps at (opened s m) (λ (k : ℕ) (p : Place). holds x p ≡ true → ((k ≡ at) × (s ≡ x)) ⊎ (holdsAt ps x k ≡ true)) h

@@ -7,9 +7,8 @@ use lib.ListN.{getD}
 use Rattle.octets.specs.Searches.{firstFit, anyFits, allFit}
 use Rattle.place.specs.declared.Place.{Place}
 use Rattle.place.specs.declared.Reply.{Reply}
-use Rattle.place.specs.declared.Outcome.the-variants.{Nothing}
 use Rattle.place.specs.Rules.{free, isOpen, holds, keeps}
-use Rattle.place.specs.Steps.{ticked, fits}
+use Rattle.place.specs.Steps.{NOTHING, ticked, fits}
 use Rattle.places.specs.declared.Report.{Report}
 use Rattle.places.specs.declared.Swept.{Swept}
 
@@ -75,7 +74,7 @@ report t r p = record { outcome = ticked t r p .outcome; serial = p .serial }
 
 -- a place of which nothing is told
 abbrev pub nothing : Report
-nothing = record { outcome = Nothing; serial = 0 }
+nothing = record { outcome = NOTHING; serial = 0 }
 
 -- "The tick answers all sixteen places."
 unfoldable pub swept : ℕ → ℕ → List Place → Swept

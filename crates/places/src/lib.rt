@@ -3,13 +3,14 @@ ghost use mathlib.Core.Path.{_≡_};
 ghost use mathlib.Core.Bool.{_&&_};
 ghost use Rattle.place.specs.Rules.{isOpen};
 ghost use Rattle.places.specs.Rows.{placeAt, lowestFree, isOpenAs, twice, allKeep, upward, serialFor, fitting, swept};
-use place::Outcome;
+use place::NOTHING;
 use place::Place;
 use place::Reply;
 
 // What a tick tells of one place.
+#[repr(C)]
 pub struct Report {
-    pub outcome: Outcome,
+    pub outcome: u8,
     pub serial: u16,
 }
 
@@ -36,8 +37,7 @@ pub fn lowest_free(places: [Place; 16], from: usize, to: usize) -> usize
     let mut i = from;
     while i < to {
         let p = place_at(places, i);
-        let mode = p.mode;
-        if !mode.is_open() {
+        if !place::is_open(p.mode) {
             return i;
         }
         i = i + 1;
@@ -79,8 +79,7 @@ pub fn twice(places: [Place; 16], from: usize, to: usize) -> bool
 fn is_double(places: [Place; 16], from: usize, to: usize, p: Place) -> bool
     ensures { λ r. ⌜ r ≡ isOpen (p .mode) && isOpenAs places from to (p .serial) ⌝ }
 {
-    let mode = p.mode;
-    if !mode.is_open() {
+    if !place::is_open(p.mode) {
         return false;
     }
     is_open_as(places, from, to, p.serial)
@@ -152,18 +151,17 @@ pub fn tick_all(places: [Place; 16], timeout: u8, resends: u8) -> Swept
 {
     let mut now = places;
     let mut reports = [Report {
-        outcome: Outcome::Nothing,
+        outcome: NOTHING,
         serial: 0,
     }; 16];
     let mut i: usize = 0;
     while i < 16 {
         let p = places[i];
         let step = p.ticked(timeout, resends);
-        let outcome = step.outcome;
         let became = step.place;
         now[i] = became;
         reports[i] = Report {
-            outcome,
+            outcome: step.outcome,
             serial: p.serial,
         };
         i = i + 1;

@@ -18,15 +18,15 @@ ghost use Rattle.devices.specs.Tables.{ofSystems, ofParts, judgement, foundPlac
 ghost use Rattle.exchange.specs.declared.Told.the-variants.{Send, Request};
 ghost use Rattle.place.specs.declared.Reply.the-variants.{Confirm, Answer, Deny, BadAnswer};
 ghost use Rattle.flat.specs.Flats.{fieldsFrom};
-ghost use Rattle.coded.specs.Calls as coded;
+ghost use Rattle.exchange.specs.Table as exchanges;
 ghost use Rattle.trawnosz.specs.Calls.{servedTo, answerTo, typedTo};
-use coded::CodedBegun;
-use coded::CodedExchanges;
-use coded::CodedMade;
-use coded::CodedReplied;
-use coded::CodedTicked;
 use devices::Judgement;
 use devices::PartKey;
+use exchange::Begun;
+use exchange::Exchanges;
+use exchange::Made;
+use exchange::Replied;
+use exchange::Ticked;
 use exchange::Told;
 use flat::Flat;
 use label::Label;
@@ -221,57 +221,57 @@ pub extern "C" fn trawnosz_write_text(out: &mut [u8], text: &[u8]) -> Verdict
 }
 
 #[no_mangle]
-pub extern "C" fn trawnosz_exchanges_fresh(timeout: u8, resends: u8) -> CodedMade
-    ensures { λ r. ⌜ r ≡ coded.made timeout resends ⌝ }
+pub extern "C" fn trawnosz_exchanges_fresh(timeout: u8, resends: u8) -> Made
+    ensures { λ r. ⌜ r ≡ exchanges.made timeout resends ⌝ }
 {
-    CodedExchanges::fresh(timeout, resends)
+    Exchanges::fresh(timeout, resends)
 }
 
 #[no_mangle]
-pub extern "C" fn trawnosz_begin_send(table: CodedExchanges) -> CodedBegun
-    ensures { λ r. ⌜ r ≡ coded.begun table Send ⌝ }
+pub extern "C" fn trawnosz_begin_send(table: Exchanges) -> Begun
+    ensures { λ r. ⌜ r ≡ exchanges.begun table Send ⌝ }
 {
     table.begin(Told::Send)
 }
 
 #[no_mangle]
-pub extern "C" fn trawnosz_begin_request(table: CodedExchanges) -> CodedBegun
-    ensures { λ r. ⌜ r ≡ coded.begun table Request ⌝ }
+pub extern "C" fn trawnosz_begin_request(table: Exchanges) -> Begun
+    ensures { λ r. ⌜ r ≡ exchanges.begun table Request ⌝ }
 {
     table.begin(Told::Request)
 }
 
 #[no_mangle]
-pub extern "C" fn trawnosz_reply_confirm(table: CodedExchanges, serial: u16) -> CodedReplied
-    ensures { λ r. ⌜ r ≡ coded.answered table serial Confirm ⌝ }
+pub extern "C" fn trawnosz_reply_confirm(table: Exchanges, serial: u16) -> Replied
+    ensures { λ r. ⌜ r ≡ exchanges.answered table serial Confirm ⌝ }
 {
     table.reply(serial, Reply::Confirm)
 }
 
 #[no_mangle]
-pub extern "C" fn trawnosz_reply_answer(table: CodedExchanges, serial: u16) -> CodedReplied
-    ensures { λ r. ⌜ r ≡ coded.answered table serial Answer ⌝ }
+pub extern "C" fn trawnosz_reply_answer(table: Exchanges, serial: u16) -> Replied
+    ensures { λ r. ⌜ r ≡ exchanges.answered table serial Answer ⌝ }
 {
     table.reply(serial, Reply::Answer)
 }
 
 #[no_mangle]
-pub extern "C" fn trawnosz_reply_deny(table: CodedExchanges, serial: u16) -> CodedReplied
-    ensures { λ r. ⌜ r ≡ coded.answered table serial Deny ⌝ }
+pub extern "C" fn trawnosz_reply_deny(table: Exchanges, serial: u16) -> Replied
+    ensures { λ r. ⌜ r ≡ exchanges.answered table serial Deny ⌝ }
 {
     table.reply(serial, Reply::Deny)
 }
 
 #[no_mangle]
-pub extern "C" fn trawnosz_reply_bad_answer(table: CodedExchanges, serial: u16) -> CodedReplied
-    ensures { λ r. ⌜ r ≡ coded.answered table serial BadAnswer ⌝ }
+pub extern "C" fn trawnosz_reply_bad_answer(table: Exchanges, serial: u16) -> Replied
+    ensures { λ r. ⌜ r ≡ exchanges.answered table serial BadAnswer ⌝ }
 {
     table.reply(serial, Reply::BadAnswer)
 }
 
 #[no_mangle]
-pub extern "C" fn trawnosz_tick(table: CodedExchanges) -> CodedTicked
-    ensures { λ r. ⌜ r ≡ coded.ticking table ⌝ }
+pub extern "C" fn trawnosz_tick(table: Exchanges) -> Ticked
+    ensures { λ r. ⌜ r ≡ exchanges.ticking table ⌝ }
 {
     table.tick()
 }

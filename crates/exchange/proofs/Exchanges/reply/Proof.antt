@@ -4,9 +4,8 @@ use Rattle.octets.proofs.Flags.{on, off}
 use Prim.Native.Nat.{ℕ, _≤_, _<_}
 use mathlib.Core.Path.{sym, ap, subst, _∙_}
 use Rattle.verdict.specs.declared.Verdict.{Verdict}
-use Rattle.place.specs.declared.Outcome.the-variants.{Nothing}
 use lib.ListN.{set}
-use Rattle.place.specs.Steps.{replied}
+use Rattle.place.specs.Steps.{NOTHING, replied}
 use Rattle.places.specs.Rows.{placeAt}
 use Rattle.exchange.proofs.Answers.{answered-state, answered-stray, answered-good, stepped}
 use Rattle.exchange.proofs.Exchanges.reply.Statement.{statement}
@@ -15,13 +14,13 @@ use Rattle.exchange.proofs.Exchanges.reply.Tie as tie
 returns : tie.Need-returns
 returns c =
     let a = c .before .before .before .args in
-    ap (λ (v : Verdict). record { verdict = v; place = 0; outcome = Nothing; state = a .self }) (c .refused .ensures)
+    ap (λ (v : Verdict). record { verdict = v; place = 0; outcome = NOTHING; state = a .self }) (c .refused .ensures)
     ∙ sym (answered-state (a .self) (a .serial) (a .reply) (off (c .before .before .is-legal .ensures) (c .before .if1 .taken)))
 
 returns-2 : tie.Need-returns-2
 returns-2 c =
     let a = c .before .before .before .before .before .before .args in
-    ap (λ (v : Verdict). record { verdict = v; place = 0; outcome = Nothing; state = a .self }) (c .refused2 .ensures)
+    ap (λ (v : Verdict). record { verdict = v; place = 0; outcome = NOTHING; state = a .self }) (c .refused2 .ensures)
     ∙ sym (answered-stray (a .self) (a .serial) (a .reply) (on (c .before .before .before .before .before .is-legal .ensures) (c .before .before .before .before .if1 .left)) (subst (λ (n : ℕ). 16 ≤ n) (c .before .before .fitting .ensures) (c .before .if2 .taken)))
 
 returns-3 : tie.Need-returns-3

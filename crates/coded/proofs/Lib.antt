@@ -1,4 +1,0 @@
-pub mod Calls
-pub mod Rounds
-pub mod Refused
-pub mod Examples
