@@ -49,7 +49,6 @@ use Rattle.place.proofs.Place.fits.Reads as place-place-fits
 use Rattle.place.proofs.Place.replied.Reads as place-place-replied
 use Rattle.places.proofs.place_at.Reads as places-place-at
 use Rattle.places.proofs.lowest_free.Reads as places-lowest-free
-use Rattle.places.proofs.is_open_as.Reads as places-is-open-as
 use Rattle.places.proofs.twice.Reads as places-twice
 use Rattle.places.proofs.all_keep.Reads as places-all-keep
 use Rattle.places.proofs.after.Reads as places-after
@@ -207,9 +206,6 @@ places-place-at-determined κs x r s a b = a ∙ sym b
 
 pub places-lowest-free-determined : (κs : _) (x : _) (r s : _) → places-lowest-free.Post κs x r x → places-lowest-free.Post κs x s x → r ≡ s
 places-lowest-free-determined κs x r s a b = a ∙ sym b
-
-pub places-is-open-as-determined : (κs : _) (x : _) (r s : _) → places-is-open-as.Post κs x r x → places-is-open-as.Post κs x s x → r ≡ s
-places-is-open-as-determined κs x r s a b = a ∙ sym b
 
 pub places-twice-determined : (κs : _) (x : _) (r s : _) → places-twice.Post κs x r x → places-twice.Post κs x s x → r ≡ s
 places-twice-determined κs x r s a b = a ∙ sym b

@@ -2,3 +2,4 @@ pub mod Fill
 pub mod Counting
 pub mod Serials
 pub mod Rules
+pub mod Held

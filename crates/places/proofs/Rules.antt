@@ -18,7 +18,7 @@ use Rattle.place.proofs.Kept.{holds-is, open-holds}
 use Rattle.places.specs.Rows.{placeAt, holdsAt, keepsAt, isOpenAs, doubleAt, twice, allKeep}
 
 -- where each place of a run refuses, none fits
-none-fits : (f : ℕ → Bool) (i n : ℕ) → ((k : ℕ) → i ≤ k → k < i + n → f k ≡ false) → anyFits f i n ≡ false
+pub none-fits : (f : ℕ → Bool) (i n : ℕ) → ((k : ℕ) → i ≤ k → k < i + n → f k ≡ false) → anyFits f i n ≡ false
 unfolding anyFits
 none-fits f i zero h = refl
 none-fits f i (suc n) h = by-test (f i) (h i (omega arith) (omega arith)) (none-fits f (suc i) n (λ k l u. h k (omega arith) (omega arith)))

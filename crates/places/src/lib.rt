@@ -1,11 +1,16 @@
 // The searches over the places from one number up to another, and the tick of all of them.
 ghost use mathlib.Core.Path.{_≡_};
 ghost use mathlib.Core.Bool.{_&&_};
+ghost use Prim.Native.Nat.{_<_, min};
 ghost use Rattle.place.specs.Rules.{isOpen};
-ghost use Rattle.places.specs.Rows.{placeAt, lowestFree, isOpenAs, twice, allKeep, upward, serialFor, fitting, swept};
+ghost use Rattle.places.specs.Rows.{placeAt, lowestFree, twice, allKeep, upward, serialFor, fitting, swept};
+ghost use Rattle.places.specs.Held.{heldBy, Held, standsIn};
 use place::NOTHING;
 use place::Place;
 use place::Reply;
+
+// The number after the last serial, for a place that is not open.
+const NONE: u32 = 65536;
 
 // What a tick tells of one place.
 #[repr(C)]
@@ -45,44 +50,81 @@ pub fn lowest_free(places: [Place; 16], from: usize, to: usize) -> usize
     i
 }
 
-// Whether a serial is open.
-pub fn is_open_as(places: [Place; 16], from: usize, to: usize, serial: u16) -> bool
-    ensures { λ r. ⌜ r ≡ isOpenAs places from to serial ⌝ }
+// The serial under which a place is open, and a number that is no serial where it is not.
+fn held_by(p: Place) -> u32
+    ensures { λ r. ⌜ r ≡ heldBy p ⌝ }
 {
-    let mut i = from;
-    while i < to {
-        let p = place_at(places, i);
-        if p.holds(serial) {
-            return true;
+    if place::is_open(p.mode) {
+        return p.serial as u32;
+    }
+    NONE
+}
+
+// Whether a serial stands in a row; no early way out, so that the compiler compares many at once.
+fn stands_in(row: &[u32; 16], serial: u16) -> bool
+    ensures { λ r. ⌜ r ≡ standsIn (now (row .entry)) serial ⌝ }
+{
+    let sought = serial as u32;
+    let mut hit = false;
+    let mut i: usize = 0;
+    while i < 16 {
+        if row[i] == sought {
+            hit = true;
         }
         i = i + 1;
     }
-    false
+    hit
 }
 
-// Whether two are open with one serial.
+// Whether two are open with one serial: from the last on, each against those behind it.
 pub fn twice(places: [Place; 16], from: usize, to: usize) -> bool
     ensures { λ r. ⌜ r ≡ twice places from to ⌝ }
 {
-    let mut i = from;
-    while i < to {
-        let p = place_at(places, i);
-        if is_double(places, i + 1, to, p) {
+    let mut row = [NONE; 16];
+    let mut i = lower(to, 16);
+    while from < i {
+        i = i - 1;
+        let p = places[i];
+        if is_double(&row, p) {
             return true;
         }
-        i = i + 1;
+        row[i] = held_by(p);
     }
     false
 }
 
-// Whether a place is open under a serial that is open again further on.
-fn is_double(places: [Place; 16], from: usize, to: usize, p: Place) -> bool
-    ensures { λ r. ⌜ r ≡ isOpen (p .mode) && isOpenAs places from to (p .serial) ⌝ }
+// Whether a place is open under a serial that stands in the row.
+fn is_double(row: &[u32; 16], p: Place) -> bool
+    ensures { λ r. ⌜ r ≡ isOpen (p .mode) && standsIn (now (row .entry)) (p .serial) ⌝ }
+    ensures { λ r. ⌜ p .serial < 65536 ⌝ }
 {
     if !place::is_open(p.mode) {
         return false;
     }
-    is_open_as(places, from, to, p.serial)
+    stands_in(row, p.serial)
+}
+
+// The serials that are open, each at its place.
+fn open_serials(places: [Place; 16], from: usize, to: usize) -> [u32; 16]
+    ensures { λ r. ⌜ Held r places from to ⌝ }
+{
+    let mut row = [NONE; 16];
+    let mut i = lower(to, 16);
+    while from < i {
+        i = i - 1;
+        let p = places[i];
+        row[i] = held_by(p);
+    }
+    row
+}
+
+fn lower(x: usize, y: usize) -> usize
+    ensures { λ r. ⌜ r ≡ min x y ⌝ }
+{
+    if x < y {
+        return x;
+    }
+    y
 }
 
 // Whether every place keeps the rules for a place.
@@ -117,11 +159,12 @@ pub fn serial_for(places: [Place; 16], from: usize, to: usize, next: u16) -> u16
     if to <= from {
         return next;
     }
+    let row = open_serials(places, from, to);
     let most = to - from;
     let mut serial = next;
     let mut tried: usize = 0;
     while tried < most {
-        if !is_open_as(places, from, to, serial) {
+        if !stands_in(&row, serial) {
             return serial;
         }
         serial = after(serial);
