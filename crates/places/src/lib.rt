@@ -25,23 +25,14 @@ pub struct Swept {
     pub reports: [Report; 16],
 }
 
-// The place at a number, a free one behind the end.
-pub fn place_at(places: [Place; 16], at: usize) -> Place
-    ensures { λ r. ⌜ r ≡ placeAt places at ⌝ }
-{
-    if at < 16 {
-        return places[at];
-    }
-    Place::free()
-}
-
 // The lowest free place, `to` where none is free.
 pub fn lowest_free(places: [Place; 16], from: usize, to: usize) -> usize
     ensures { λ r. ⌜ r ≡ lowestFree places from to ⌝ }
 {
+    let end = lower(to, 16);
     let mut i = from;
-    while i < to {
-        let p = place_at(places, i);
+    while i < end {
+        let p = places[i];
         if !place::is_open(p.mode) {
             return i;
         }
@@ -131,9 +122,10 @@ fn lower(x: usize, y: usize) -> usize
 pub fn all_keep(places: [Place; 16], from: usize, to: usize, timeout: u8, resends: u8) -> bool
     ensures { λ r. ⌜ r ≡ allKeep timeout resends places from to ⌝ }
 {
+    let end = lower(to, 16);
     let mut i = from;
-    while i < to {
-        let p = place_at(places, i);
+    while i < end {
+        let p = places[i];
         if !p.keeps(timeout, resends) {
             return false;
         }
@@ -177,13 +169,17 @@ pub fn serial_for(places: [Place; 16], from: usize, to: usize, next: u16) -> u16
 pub fn fitting(places: [Place; 16], from: usize, to: usize, serial: u16, reply: Reply) -> usize
     ensures { λ r. ⌜ r ≡ fitting places from to serial reply ⌝ }
 {
+    let end = lower(to, 16);
     let mut i = from;
-    while i < to {
-        let p = place_at(places, i);
+    while i < end {
+        let p = places[i];
         if p.fits(serial, reply) {
             return i;
         }
         i = i + 1;
+    }
+    if i < to {
+        return to;
     }
     i
 }
