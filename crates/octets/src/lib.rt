@@ -4,7 +4,7 @@ ghost use denote.Ref.{ptr};
 ghost use Prim.Native.Nat.{_+_, _<_, _%_};
 ghost use lib.ListN.{getD, take, drop};
 ghost use Rattle.octets.specs.Numbers.{lowFirst, bytesOf, signedOf, bitsOf};
-ghost use Rattle.octets.specs.Parts.{part, partPlace, putAt};
+ghost use Rattle.octets.specs.Parts.{part, partPlace, putAt, oneByOne};
 ghost use Rattle.octets.specs.Sums.{total};
 
 // The byte at a place, 0 behind the end.
@@ -43,6 +43,26 @@ pub fn four_at(s: &[u8], at: usize) -> u32
         return 0;
     }
     (two_at(s, at) as u32) + 65536 * (two_at(s, at + 2) as u32)
+}
+
+// Six bytes from a place on, 0 behind the end; where all are there one test of the length is enough.
+pub fn six_at(s: &[u8], at: usize) -> [u8; 6]
+    ensures { λ r. ⌜ r ≡ oneByOne (now (s .entry)) at 6 ⌝ }
+{
+    if s.len() <= at {
+        return [0; 6];
+    }
+    if s.len() - at < 6 {
+        return [
+            byte_at(s, at),
+            byte_at(s, at + 1),
+            byte_at(s, at + 2),
+            byte_at(s, at + 3),
+            byte_at(s, at + 4),
+            byte_at(s, at + 5),
+        ];
+    }
+    [s[at], s[at + 1], s[at + 2], s[at + 3], s[at + 4], s[at + 5]]
 }
 
 pub fn two_bytes(x: u16) -> [u8; 2]

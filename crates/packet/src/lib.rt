@@ -3,7 +3,6 @@ ghost use mathlib.Core.Path.{_≡_};
 ghost use Prim.Native.Nat.{_<_};
 ghost use denote.Ref.{ptr};
 ghost use Rattle.kinds.specs.Table.{rows};
-ghost use Rattle.octets.specs.Parts.{oneByOne};
 ghost use Rattle.verdict.specs.Orders.{inOrder, good, partIn, placeIn};
 ghost use Rattle.packet.specs.Frames.{lengthOf, frameTests, judgedContent, judgedPacket, unitPlace};
 ghost use Rattle.packet.specs.Headers.{headerOf, noHeader, openedPacket};
@@ -111,25 +110,10 @@ pub fn header_of(p: &[u8]) -> Header
         serial: octets::two_at(p, 2),
         version: byte_at(p, 5),
         label: Label::read_at(p, 6),
-        source: six_at(p, 12),
-        destination: six_at(p, 18),
+        source: octets::six_at(p, 12),
+        destination: octets::six_at(p, 18),
         command: byte_at(p, 26),
     }
-}
-
-// The six bytes of an address.
-fn six_at(p: &[u8], at: usize) -> [u8; 6]
-    requires { ⌜ at < 256 ⌝ }
-    ensures { λ r. ⌜ r ≡ oneByOne (now (p .entry)) at 6 ⌝ }
-{
-    [
-        byte_at(p, at),
-        byte_at(p, at + 1),
-        byte_at(p, at + 2),
-        byte_at(p, at + 3),
-        byte_at(p, at + 4),
-        byte_at(p, at + 5),
-    ]
 }
 
 // A packet's fields, L and the verdict.
