@@ -4,6 +4,7 @@ use mathlib.Core.Path.{_≡_, sym, _∙_}
 use Rattle.octets.proofs.byte_at.Reads as octets-byte-at
 use Rattle.octets.proofs.two_at.Reads as octets-two-at
 use Rattle.octets.proofs.four_at.Reads as octets-four-at
+use Rattle.octets.proofs.six_at.Reads as octets-six-at
 use Rattle.octets.proofs.two_bytes.Reads as octets-two-bytes
 use Rattle.octets.proofs.four_bytes.Reads as octets-four-bytes
 use Rattle.octets.proofs.signed.Reads as octets-signed
@@ -74,6 +75,9 @@ octets-two-at-determined κs x r s a b = a ∙ sym b
 
 pub octets-four-at-determined : (κs : _) (x : _) (r s : _) → octets-four-at.Post κs x r x → octets-four-at.Post κs x s x → r ≡ s
 octets-four-at-determined κs x r s a b = a ∙ sym b
+
+pub octets-six-at-determined : (κs : _) (x : _) (r s : _) → octets-six-at.Post κs x r x → octets-six-at.Post κs x s x → r ≡ s
+octets-six-at-determined κs x r s a b = a ∙ sym b
 
 pub octets-two-bytes-determined : (κs : _) (x : _) (r s : _) → octets-two-bytes.Post κs x r x → octets-two-bytes.Post κs x s x → r ≡ s
 octets-two-bytes-determined κs x r s a b = a ∙ sym b

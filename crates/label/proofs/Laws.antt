@@ -1,11 +1,13 @@
 -- The laws of a label: its two round trips, and how a judgement is reached. Assumes nothing.
-use Prim.Native.Nat.{ℕ, _<_}
+use Prim.Native.Nat.{ℕ, _+_, _<_}
+use native.Mathlib.Numerals.{add-one, add-two, add-three, add-four, add-five}
 use native.Mathlib.Omega.{arith}
-use mathlib.Core.Path.{_≡_, refl, _∙_}
+use mathlib.Core.Path.{_≡_, refl, sym, ap, _∙_}
 use mathlib.Core.List.{List, _++_}
 use lib.Dec.{lit<}
-use lib.ListN.{length, getD}
-use lib.Seq.{take-all}
+use lib.ListN.{length, getD, drop}
+use lib.Seq.{take-all, getD-drop}
+use Rattle.octets.specs.Parts.{oneByOne}
 use Rattle.octets.proofs.Parts.{one-by-one}
 use Rattle.label.specs.declared.Label.{Label}
 use Rattle.label.specs.Times.{labelOf, labelBytes}
@@ -14,6 +16,13 @@ use Rattle.label.specs.Times.{labelOf, labelBytes}
 pub same : (s : List ℕ) (l : Label) → l .second ≡ getD s 0 0 → l .minute ≡ getD s 1 0 → l .hour ≡ getD s 2 0 → l .day ≡ getD s 3 0
     → l .month ≡ getD s 4 0 → l .year ≡ getD s 5 0 → l ≡ labelOf s
 same s l a b c d e f = λ i. record { second = a i; minute = b i; hour = c i; day = d i; month = e i; year = f i }
+
+-- six bytes read from a place on stand for the label there
+pub label-six : (s : List ℕ) (at : ℕ) → labelOf (oneByOne s at 6) ≡ labelOf (drop at s)
+label-six s at = same (drop at s) (labelOf (oneByOne s at 6)) (each 0 at (omega arith)) (each 1 _ (add-one at)) (each 2 _ (add-two at)) (each 3 _ (add-three at)) (each 4 _ (add-four at)) (each 5 _ (add-five at))
+  where
+    each : (k i : ℕ) → at + k ≡ i → getD s i 0 ≡ getD (drop at s) k 0
+    each k i e = sym (getD-drop at s k 0 ∙ ap (λ (n : ℕ). getD s n 0) e)
 
 -- written and read back: the same label
 pub bytes-label : (l : Label) (rest : List ℕ) → labelOf (labelBytes l ++ rest) ≡ l

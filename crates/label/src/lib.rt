@@ -26,24 +26,14 @@ impl Label {
     pub fn read_at(s: &[u8], at: usize) -> Label
         ensures { λ r. ⌜ r ≡ labelOf (drop at (now (s .entry))) ⌝ }
     {
-        if s.len() < at {
-            return Label {
-                second: 0,
-                minute: 0,
-                hour: 0,
-                day: 0,
-                month: 0,
-                year: 0,
-            };
-        }
-        let p = &s[at..];
+        let b = octets::six_at(s, at);
         Label {
-            second: octets::byte_at(p, 0),
-            minute: octets::byte_at(p, 1),
-            hour: octets::byte_at(p, 2),
-            day: octets::byte_at(p, 3),
-            month: octets::byte_at(p, 4),
-            year: octets::byte_at(p, 5),
+            second: b[0],
+            minute: b[1],
+            hour: b[2],
+            day: b[3],
+            month: b[4],
+            year: b[5],
         }
     }
 

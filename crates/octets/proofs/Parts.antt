@@ -7,7 +7,7 @@ use mathlib.Core.Path.{_≡_, refl, sym, ap, _∙_}
 use mathlib.Core.List.{List, [], _∷_, _++_, append-assoc}
 use borrow.Author.Tests.{le-leb, lt-leb, leb-true, leb-false}
 use lib.Dec.{leb}
-use lib.ListN.{length, getD, take, drop, length-append, length-take, length-drop, take-append-drop}
+use lib.ListN.{length, getD, take, drop, replicate, List·getD-eq-default, length-append, length-take, length-drop, take-append-drop}
 use native.Mathlib.Nat.{le-of-eq}
 use lib.Seq.{drop-drop, take-all, take-at, drop-at, take-append-seam, drop-cons, getD-take, getD-drop, length-take-le}
 use Rattle.octets.specs.Parts.{within, part, partPlace, putAt, oneByOne}
@@ -88,6 +88,11 @@ one-by-one s i zero h = refl
 one-by-one s i (suc n) h =
     rw (drop-cons s i 0 (omega arith))
     (ap (λ (t : List ℕ). getD s i 0 ∷ t) (one-by-one s (suc i) n (omega arith)))
+
+-- behind the end each of them is 0
+pub one-behind : (s : List ℕ) (i n : ℕ) → length s ≤ i → replicate n 0 ≡ oneByOne s i n
+one-behind s i zero h = refl
+one-behind s i (suc n) h = λ k. sym (List·getD-eq-default s 0 h) k ∷ one-behind s (suc i) n (omega arith) k
 
 -- what `&s[at..]` lends is all from that place on
 pub rest-is : (s : List ℕ) (at : ℕ) → take (length s - at) (drop at s) ≡ drop at s

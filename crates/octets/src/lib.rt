@@ -1,10 +1,10 @@
 // Bytes as the standard counts them: numbers low byte first, parts, bytes put into a lent row, and the sum.
 ghost use mathlib.Core.Path.{_≡_};
 ghost use denote.Ref.{ptr};
-ghost use Prim.Native.Nat.{_+_, _<_, _%_};
+ghost use Prim.Native.Nat.{_+_, _*_, _<_, _%_};
 ghost use lib.ListN.{getD, take, drop};
 ghost use Rattle.octets.specs.Numbers.{lowFirst, bytesOf, signedOf, bitsOf};
-ghost use Rattle.octets.specs.Parts.{part, partPlace, putAt};
+ghost use Rattle.octets.specs.Parts.{part, partPlace, putAt, oneByOne};
 ghost use Rattle.octets.specs.Sums.{total};
 
 // The byte at a place, 0 behind the end.
@@ -42,7 +42,38 @@ pub fn four_at(s: &[u8], at: usize) -> u32
     if s.len() <= at {
         return 0;
     }
-    (two_at(s, at) as u32) + 65536 * (two_at(s, at + 2) as u32)
+    if s.len() - at < 4 {
+        return joined(two_at(s, at), two_at(s, at + 2));
+    }
+    let p = &s[at..at + 4];
+    joined(two_at(p, 0), two_at(p, 2))
+}
+
+// The number of two bytes and the two that follow them.
+fn joined(low: u16, high: u16) -> u32
+    ensures { λ r. ⌜ r ≡ low + 65536 * high ⌝ }
+{
+    (low as u32) + 65536 * (high as u32)
+}
+
+// Six bytes from a place on, 0 behind the end; where all are there one test of the length is enough.
+pub fn six_at(s: &[u8], at: usize) -> [u8; 6]
+    ensures { λ r. ⌜ r ≡ oneByOne (now (s .entry)) at 6 ⌝ }
+{
+    if s.len() <= at {
+        return [0; 6];
+    }
+    if s.len() - at < 6 {
+        return [
+            byte_at(s, at),
+            byte_at(s, at + 1),
+            byte_at(s, at + 2),
+            byte_at(s, at + 3),
+            byte_at(s, at + 4),
+            byte_at(s, at + 5),
+        ];
+    }
+    [s[at], s[at + 1], s[at + 2], s[at + 3], s[at + 4], s[at + 5]]
 }
 
 pub fn two_bytes(x: u16) -> [u8; 2]

@@ -1,9 +1,9 @@
 // The packet: its judge, its header by value, and its writer.
 ghost use mathlib.Core.Path.{_≡_};
-ghost use Prim.Native.Nat.{_<_};
+ghost use Prim.Native.Nat.{_<_, _≤_};
 ghost use denote.Ref.{ptr};
+ghost use lib.ListN.{length};
 ghost use Rattle.kinds.specs.Table.{rows};
-ghost use Rattle.octets.specs.Parts.{oneByOne};
 ghost use Rattle.verdict.specs.Orders.{inOrder, good, partIn, placeIn};
 ghost use Rattle.packet.specs.Frames.{lengthOf, frameTests, judgedContent, judgedPacket, unitPlace};
 ghost use Rattle.packet.specs.Headers.{headerOf, noHeader, openedPacket};
@@ -103,33 +103,32 @@ pub fn judge(p: &[u8]) -> Verdict
     judge_content(p)
 }
 
-// The header's fields as they stand in a packet.
+// The header's fields as they stand in a packet; what is missing behind the end reads 0.
 pub fn header_of(p: &[u8]) -> Header
     ensures { λ r. ⌜ r ≡ headerOf (now (p .entry)) ⌝ }
 {
-    Header {
-        serial: octets::two_at(p, 2),
-        version: byte_at(p, 5),
-        label: Label::read_at(p, 6),
-        source: six_at(p, 12),
-        destination: six_at(p, 18),
-        command: byte_at(p, 26),
+    if p.len() < 27 {
+        let mut b: [u8; 27] = [0; 27];
+        octets::put(&mut b, 0, p);
+        return header_in(&b);
     }
+    header_in(p)
 }
 
-// The six bytes of an address.
-fn six_at(p: &[u8], at: usize) -> [u8; 6]
-    requires { ⌜ at < 256 ⌝ }
-    ensures { λ r. ⌜ r ≡ oneByOne (now (p .entry)) at 6 ⌝ }
+// The same where nothing is missing: of a part of 27 bytes the compiler reads each without a test.
+fn header_in(p: &[u8]) -> Header
+    requires { ⌜ 27 ≤ length (now p) ⌝ }
+    ensures { λ r. ⌜ r ≡ headerOf (now (p .entry)) ⌝ }
 {
-    [
-        byte_at(p, at),
-        byte_at(p, at + 1),
-        byte_at(p, at + 2),
-        byte_at(p, at + 3),
-        byte_at(p, at + 4),
-        byte_at(p, at + 5),
-    ]
+    let h = &p[0..27];
+    Header {
+        serial: octets::two_at(h, 2),
+        version: byte_at(h, 5),
+        label: Label::read_at(h, 6),
+        source: octets::six_at(h, 12),
+        destination: octets::six_at(h, 18),
+        command: byte_at(h, 26),
+    }
 }
 
 // A packet's fields, L and the verdict.
