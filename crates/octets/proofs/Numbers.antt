@@ -7,7 +7,7 @@ use native.Mathlib.Omega.{arith}
 use mathlib.Core.Path.{_≡_, refl, sym, ap, _∙_}
 use mathlib.Core.List.{List, [], _∷_}
 use lib.ListN.{length, getD, take, drop, drop-of-length-le}
-use lib.Seq.{take-nil, take-take, drop-cons}
+use lib.Seq.{take-nil, drop-cons}
 use Rattle.octets.specs.Numbers.{Octets, lowFirst, bytesOf}
 
 -- a number of one byte more: the byte at its place and 256 times what follows
@@ -34,12 +34,17 @@ low-four s at =
     (omega
     (arith, low-step s at 3, low-step s (suc at) 2, low-step s at 1, low-step s (suc at) 0))
 
+take-twice : (n : ℕ) (s : List ℕ) → take n (take n s) ≡ take n s
+take-twice zero s = refl
+take-twice (suc n) [] = refl
+take-twice (suc n) (b ∷ s) = ap (λ (t : List ℕ). b ∷ t) (take-twice n s)
+
 -- the same of the four bytes alone
 pub low-alone : (s : List ℕ) (at n : ℕ) → n ≡ 4 → lowFirst (take 2 (drop 0 (take n (drop at s)))) + 65536 * lowFirst (take 2 (drop 2 (take n (drop at s)))) ≡ lowFirst (take 4 (drop at s))
 low-alone s at n e =
     ap (λ (k : ℕ). lowFirst (take 2 (drop 0 (take k (drop at s)))) + 65536 * lowFirst (take 2 (drop 2 (take k (drop at s))))) e
     ∙ sym (low-four (take 4 (drop at s)) 0)
-    ∙ ap lowFirst (take-take 4 4 (drop at s) (omega arith))
+    ∙ ap lowFirst (take-twice 4 (drop at s))
 
 pub length-bytes : (n x : ℕ) → length (bytesOf n x) ≡ n
 unfolding bytesOf

@@ -9,7 +9,7 @@ use borrow.Author.Tests.{le-leb, lt-leb, leb-true, leb-false}
 use lib.Dec.{leb}
 use lib.ListN.{length, getD, take, drop, replicate, List·getD-eq-default, length-append, length-take, length-drop, take-append-drop}
 use native.Mathlib.Nat.{le-of-eq}
-use lib.Seq.{paste, take-length, take-add, drop-drop, take-all, take-at, drop-at, take-append-seam, drop-cons, getD-take, getD-drop, length-take-le}
+use lib.Seq.{drop-drop, take-all, take-at, drop-at, take-append-seam, drop-cons, getD-take, getD-drop, length-take-le}
 use Rattle.octets.specs.Parts.{within, part, partPlace, putAt, oneByOne}
 
 -- a part that is there
@@ -70,10 +70,6 @@ module _ (o : List ℕ) (at : ℕ) (bytes : List ℕ) (fits : at + length bytes 
       (ap (take (length bytes)) (drop-at (take at o) (bytes ++ drop (at + length bytes) o) at front)
       ∙ take-append-seam bytes (drop (at + length bytes) o))
 
--- bytes put one by one are put when the last one is
-pub paste-whole : (o : List ℕ) (at : ℕ) (bytes : List ℕ) → at + length bytes ≤ length o → paste o at bytes (length bytes) ≡ putAt o at bytes
-paste-whole o at bytes fits = ap (λ (t : List ℕ). take at o ++ t ++ drop (at + length bytes) o) (take-length bytes) ∙ sym (put-is o at bytes fits)
-
 -- bytes that do not fit change nothing
 pub put-none : (o : List ℕ) (at : ℕ) (bytes : List ℕ) → length o < at + length bytes → putAt o at bytes ≡ o
 unfolding putAt
@@ -124,44 +120,6 @@ put-put o at x y fits =
     ∙ ap (λ (l : List ℕ). l ++ drop (mid + length y) o) (append-assoc (take at o) x y)
     ∙ ap (λ (n : ℕ). take at o ++ (x ++ y) ++ drop n o) (sym ends)
     ∙ sym (put-is o at (x ++ y) (omega arith))
-
--- bytes put over others at the same place hide them
-pub put-over : (o : List ℕ) (at : ℕ) (x y : List ℕ) → length x ≤ length y → at + length y ≤ length o → putAt (putAt o at x) at y ≡ putAt o at y
-put-over o at x y l fits =
-    let o' : List ℕ = putAt o at x in
-    let first : at + length x ≤ length o = omega arith in
-    let more : ℕ = length y - length x in
-    let ends : at + length x + more ≡ at + length y = omega arith in
-    let back : drop (at + length y) o' ≡ drop (at + length y) o =
-    ap (λ (n : ℕ). drop n o') (sym ends) ∙ sym (drop-drop more (at + length x) o') ∙ ap (drop more) (put-after o at x first) ∙ drop-drop more (at + length x) o ∙ ap (λ (n : ℕ). drop n o) ends in
-    put-is o' at y (omega (arith, length-put o at x))
-    ∙ ap (λ (l : List ℕ). l ++ y ++ drop (at + length y) o') (put-before o at x first)
-    ∙ ap (λ (l : List ℕ). take at o ++ y ++ l) back
-    ∙ sym (put-is o at y fits)
-
--- a row put in pieces: the next one, and a last one that may begin before the others ended
-module _ (o : List ℕ) (at : ℕ) (bytes : List ℕ) (fits : at + length bytes ≤ length o) where
-  pub put-next : (i n : ℕ) → i + n ≤ length bytes → putAt (putAt o at (take i bytes)) (at + i) (take n (drop i bytes)) ≡ putAt o at (take (i + n) bytes)
-  put-next i n h =
-      let few : length (take i bytes) ≡ i = length-take-le i bytes (omega arith) in
-      let here : length (take n (drop i bytes)) ≡ n = length-take-le n (drop i bytes) (omega (arith, length-drop i bytes)) in
-      ap (λ (k : ℕ). putAt (putAt o at (take i bytes)) (at + k) (take n (drop i bytes))) (sym few)
-      ∙ put-put o at (take i bytes) (take n (drop i bytes)) (omega (arith, few, here))
-      ∙ ap (putAt o at) (sym (take-add i n bytes))
-
-  pub put-last : (i m : ℕ) → m ≤ i → i ≤ length bytes → putAt (putAt o at (take i bytes)) (at + m) (drop m bytes) ≡ putAt o at bytes
-  put-last i m h l =
-      let x : List ℕ = take m bytes in
-      let y : List ℕ = take (i - m) (drop m bytes) in
-      let few : length x ≡ m = length-take-le m bytes (omega arith) in
-      let some : length y ≡ i - m = length-take-le (i - m) (drop m bytes) (omega (arith, length-drop m bytes)) in
-      let upto : m + (i - m) ≡ i = omega arith in
-      ap (λ (k : ℕ). putAt (putAt o at (take k bytes)) (at + m) (drop m bytes)) (sym upto)
-      ∙ ap (λ (r : List ℕ). putAt r (at + m) (drop m bytes)) (sym (put-next m (i - m) (omega arith)))
-      ∙ put-over (putAt o at x) (at + m) y (drop m bytes) (omega (arith, some, length-drop m bytes)) (omega (arith, length-put o at x, length-drop m bytes))
-      ∙ ap (λ (k : ℕ). putAt (putAt o at x) (at + k) (drop m bytes)) (sym few)
-      ∙ put-put o at x (drop m bytes) (omega (arith, few, length-drop m bytes))
-      ∙ ap (putAt o at) (take-append-drop m bytes)
 
 -- a byte outside of what is put is as it was
 module _ (o : List ℕ) (at : ℕ) (bytes : List ℕ) (fits : at + length bytes ≤ length o) (i : ℕ) where

@@ -1,8 +1,8 @@
 // Bytes as the standard counts them: numbers low byte first, parts, bytes put into a lent row, and the sum.
 ghost use mathlib.Core.Path.{_≡_};
 ghost use denote.Ref.{ptr};
-ghost use Prim.Native.Nat.{_+_, _*_, _≤_, _<_, _%_};
-ghost use lib.ListN.{length, getD, take, drop};
+ghost use Prim.Native.Nat.{_+_, _*_, _<_, _%_};
+ghost use lib.ListN.{getD, take, drop};
 ghost use Rattle.octets.specs.Numbers.{lowFirst, bytesOf, signedOf, bitsOf};
 ghost use Rattle.octets.specs.Parts.{part, partPlace, putAt, oneByOne};
 ghost use Rattle.octets.specs.Sums.{total};
@@ -137,58 +137,11 @@ pub fn put(out: &mut [u8], at: usize, bytes: &[u8])
     if out.len() - at < bytes.len() {
         return;
     }
-    if 16 <= bytes.len() {
-        put_blocks(out, at, bytes);
-        return;
-    }
     let mut i: usize = 0;
     while i < bytes.len() {
         out[at + i] = bytes[i];
         i = i + 1;
     }
-}
-
-// Bytes put sixteen at a time; the last sixteen are put whole, so that no rest is left to put one by one.
-fn put_blocks(out: &mut [u8], at: usize, bytes: &[u8])
-    requires { ⌜ 16 ≤ length (now bytes) ⌝ }
-    requires { ⌜ at + length (now bytes) ≤ length (now out) ⌝ }
-    ensures { λ r. ⌜ now (out .exit) ≡ putAt (now (out .entry)) at (now (bytes .entry)) ⌝ }
-{
-    let n = bytes.len();
-    let mut i: usize = 0;
-    while 16 <= n - i {
-        put_block(out, at + i, &bytes[i..i + 16]);
-        i = i + 16;
-    }
-    put_block(out, at + n - 16, &bytes[n - 16..n]);
-}
-
-// Sixteen bytes put at once.
-fn put_block(out: &mut [u8], at: usize, bytes: &[u8])
-    requires { ⌜ length (now bytes) ≡ 16 ⌝ }
-    requires { ⌜ at + 16 ≤ length (now out) ⌝ }
-    ensures { λ r. ⌜ now (out .exit) ≡ putAt (now (out .entry)) at (now (bytes .entry)) ⌝ }
-{
-    let held = sixteen(bytes);
-    let mut i: usize = 0;
-    while i < 16 {
-        out[at + i] = held[i];
-        i = i + 1;
-    }
-}
-
-// Sixteen bytes by value: what is read apart from the row is written to it at once.
-fn sixteen(bytes: &[u8]) -> [u8; 16]
-    requires { ⌜ length (now bytes) ≡ 16 ⌝ }
-    ensures { λ r. ⌜ r ≡ now (bytes .entry) ⌝ }
-{
-    let mut held: [u8; 16] = [0; 16];
-    let mut i: usize = 0;
-    while i < 16 {
-        held[i] = bytes[i];
-        i = i + 1;
-    }
-    held
 }
 
 // The sum modulo 256 of at most the first 1,049 bytes.

@@ -4,12 +4,16 @@ use Prim.Native.Nat.{ℕ, _+_, _-_, _≤_}
 use native.Mathlib.Numerals.{add-one}
 use native.Mathlib.Omega.{arith}
 use mathlib.Core.Path.{_≡_, sym, ap, _∙_}
-use mathlib.Core.List.{List}
-use lib.ListN.{length, getD, set}
-use lib.Seq.{paste, paste-zero, paste-suc, length-paste}
-use Rattle.octets.proofs.Parts.{put-none, paste-whole, length-put}
+use mathlib.Core.List.{List, _++_}
+use lib.ListN.{length, getD, set, take, drop}
+use lib.Seq.{paste, paste-zero, paste-suc, length-paste, take-length}
+use Rattle.octets.specs.Parts.{putAt}
+use Rattle.octets.proofs.Parts.{put-is, put-none}
 use Rattle.octets.proofs.put.Statement.{statement}
 use Rattle.octets.proofs.put.Tie as tie
+
+whole : (o : List ℕ) (at : ℕ) (bytes : List ℕ) → at + length bytes ≤ length o → paste o at bytes (length bytes) ≡ putAt o at bytes
+whole o at bytes fits = ap (λ (t : List ℕ). take at o ++ t ++ drop (at + length bytes) o) (take-length bytes) ∙ sym (put-is o at bytes fits)
 
 abbrev Inv-loop : tie.InvT-loop
 Inv-loop out₀ at bytes i₀ out i = (i ≤ length bytes) × (out ≡ paste out₀ at bytes i)
@@ -17,38 +21,27 @@ Inv-loop out₀ at bytes i₀ out i = (i ≤ length bytes) × (out ≡ paste out
 abbrev μ-loop : tie.MeasureT-loop
 μ-loop out₀ at bytes i₀ out i = length bytes - i
 
-as-long : (c : tie.At-loop Inv-loop μ-loop) → length (c .loop .out) ≡ length (c .before .before .before .before .before .before .args .out .now)
+as-long : (c : tie.At-loop Inv-loop μ-loop) → length (c .loop .out) ≡ length (c .before .before .before .args .out .now)
 as-long c =
-    let a = c .before .before .before .before .before .before .args in
+    let a = c .before .before .before .args in
     ap length (c .loop .inv .1)
     ∙ length-paste (a .out .now) (a .at) (a .bytes .now) (c .loop .i) (omega arith) (c .loop .inv .0)
 
 returns : tie.Need-returns Inv-loop μ-loop
-returns c = sym (put-none (c .before .before .before .args .out .now) (c .before .before .before .args .at) (c .before .before .before .args .bytes .now) (omega arith))
+returns c = sym (put-none (c .before .args .out .now) (c .before .args .at) (c .before .args .bytes .now) (omega arith))
 
 returns-2 : tie.Need-returns-2 Inv-loop μ-loop
-returns-2 c = sym (put-none (c .before .before .before .before .args .out .now) (c .before .before .before .before .args .at) (c .before .before .before .before .args .bytes .now) (omega arith))
-
-put-blocks-requires : tie.Need-put-blocks-requires Inv-loop μ-loop
-put-blocks-requires c κs =
-    let fits : c .before .before .before .before .before .before .args .at + length (c .before .before .before .before .before .before .args .bytes .now) ≤ length (c .before .before .before .before .before .before .args .out .now) = omega arith in
-    (c .before .if3 .taken, fits)
-
-same-length : tie.Need-same-length Inv-loop μ-loop
-same-length c = ap length (c .before .before .put-blocks .ensures) ∙ length-put (c .before .before .before .before .before .before .before .before .before .args .out .now) (c .before .before .before .before .before .before .before .before .before .args .at) (c .before .before .before .before .before .before .before .before .before .args .bytes .now)
-
-returns-3 : tie.Need-returns-3 Inv-loop μ-loop
-returns-3 c = c .before .before .put-blocks .ensures
+returns-2 c = sym (put-none (c .before .before .args .out .now) (c .before .before .args .at) (c .before .before .args .bytes .now) (omega arith))
 
 loop-holds : tie.Need-loop-holds Inv-loop μ-loop
-loop-holds c = (omega arith, paste-zero (c .before .before .before .before .before .args .out .now) (c .before .before .before .before .before .args .at) (c .before .before .before .before .before .args .bytes .now))
+loop-holds c = (omega arith, paste-zero (c .before .before .args .out .now) (c .before .before .args .at) (c .before .before .args .bytes .now))
 
 slice-write-out : tie.Need-slice-write-out Inv-loop μ-loop
 slice-write-out c = omega (arith, as-long (c .before .before))
 
 loop-again : tie.Need-loop-again Inv-loop μ-loop
 loop-again c =
-    let a = c .before .before .before .before .before .before .before .before .args in
+    let a = c .before .before .before .before .before .args in
     let i = c .before .before .loop .i in (
       omega arith,
       ap (λ (o : List ℕ). set o (a .at + i) (getD (a .bytes .now) i 0)) (c .before .before .loop .inv .1)
@@ -56,16 +49,16 @@ loop-again c =
           ∙ ap (paste (a .out .now) (a .at) (a .bytes .now)) (sym (add-one i)),
     )
 
-same-length-2 : tie.Need-same-length-2 Inv-loop μ-loop
-same-length-2 c = as-long (c .before)
+same-length : tie.Need-same-length Inv-loop μ-loop
+same-length c = as-long (c .before)
 
-returns-4 : tie.Need-returns-4 Inv-loop μ-loop
-returns-4 c =
-    let a = c .before .before .before .before .before .before .before .args in
+returns-3 : tie.Need-returns-3 Inv-loop μ-loop
+returns-3 c =
+    let a = c .before .before .before .before .args in
     let all : c .before .loop .i ≡ length (a .bytes .now) = omega arith in
     c .before .loop .inv .1
     ∙ ap (paste (a .out .now) (a .at) (a .bytes .now)) all
-    ∙ paste-whole (a .out .now) (a .at) (a .bytes .now) (omega arith)
+    ∙ whole (a .out .now) (a .at) (a .bytes .now) (omega arith)
 
 pub put-spec : {M : Type 1} → statement M
 put-spec =
@@ -76,9 +69,6 @@ put-spec =
     returns
     (λ c. omega arith)
     returns-2
-    put-blocks-requires
-    same-length
-    returns-3
     loop-holds
     (λ c. omega arith)
     (λ c. omega arith)
@@ -86,5 +76,5 @@ put-spec =
     (λ c. omega arith)
     (λ c. omega arith)
     loop-again
-    same-length-2
-    returns-4)
+    same-length
+    returns-3)
