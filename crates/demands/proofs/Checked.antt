@@ -16,7 +16,7 @@ use Rattle.octets.proofs.Examples.{A}
 use Rattle.packet.specs.Frames.{judgedContent, judgedPacket}
 use Rattle.packet.proofs.Examples.{B}
 use Rattle.place.specs.Rules.{isOpen, isZero, holds, keeps}
-use Rattle.place.specs.Steps.{denied, ticked, codeOf}
+use Rattle.place.specs.Steps.{denied, ticked}
 use Rattle.places.specs.declared.Report.{Report}
 use Rattle.places.specs.Rows.{lowestFree, isOpenAs, twice, allKeep, serialFor, swept}
 use Rattle.reading.specs.Values.{told, packetOf}
@@ -64,7 +64,7 @@ abbrev opened : ℕ → ℕ → Exchanges
 opened t r = begun (made t r .state) Send .state
 
 abbrev outcomes : Exchanges → List ℕ
-outcomes x = take 1 (map (λ (r : Report). codeOf (r .outcome)) (ticking x .reports))
+outcomes x = take 1 (map (λ (r : Report). r .outcome) (ticking x .reports))
 
 abbrev serialFrom : ℕ → List ℕ
 serialFrom n =

@@ -48,7 +48,6 @@ use Rattle.place.proofs.Place.denied.Reads as place-place-denied
 use Rattle.place.proofs.Place.ticked.Reads as place-place-ticked
 use Rattle.place.proofs.Place.fits.Reads as place-place-fits
 use Rattle.place.proofs.Place.replied.Reads as place-place-replied
-use Rattle.places.proofs.place_at.Reads as places-place-at
 use Rattle.places.proofs.lowest_free.Reads as places-lowest-free
 use Rattle.places.proofs.twice.Reads as places-twice
 use Rattle.places.proofs.all_keep.Reads as places-all-keep
@@ -204,9 +203,6 @@ place-place-fits-determined κs x r s a b = a ∙ sym b
 
 pub place-place-replied-determined : (κs : _) (x : _) (r s : _) → place-place-replied.Post κs x r x → place-place-replied.Post κs x s x → r ≡ s
 place-place-replied-determined κs x r s a b = a ∙ sym b
-
-pub places-place-at-determined : (κs : _) (x : _) (r s : _) → places-place-at.Post κs x r x → places-place-at.Post κs x s x → r ≡ s
-places-place-at-determined κs x r s a b = a ∙ sym b
 
 pub places-lowest-free-determined : (κs : _) (x : _) (r s : _) → places-lowest-free.Post κs x r x → places-lowest-free.Post κs x s x → r ≡ s
 places-lowest-free-determined κs x r s a b = a ∙ sym b

@@ -173,10 +173,10 @@ impl Place {
     pub fn fits(self, serial: u16, reply: Reply) -> bool
         ensures { λ r. ⌜ r ≡ fits serial reply self ⌝ }
     {
-        if !awaits(self.mode, reply) {
+        if self.serial != serial {
             return false;
         }
-        self.serial == serial
+        awaits(self.mode, reply)
     }
 
     // What a reply that fits makes of the place.
