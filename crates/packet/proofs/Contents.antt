@@ -5,6 +5,7 @@ use mathlib.Core.List.{List}
 use mathlib.Core.Path.{_≡_, refl, sym, ap, _∙_}
 use borrow.Author.Tests.{le-leb, lt-leb, eq-eqb, ne-eqb}
 use lib.ListN.{getD, drop}
+use Rattle.frame.specs.Frame.{frameTests}
 use Rattle.kinds.specs.declared.Row.{Row}
 use Rattle.label.specs.Times.{labelOf, judged, allowed}
 use Rattle.unit.specs.Units.{judgedUnder}
@@ -12,7 +13,7 @@ use Rattle.verdict.specs.declared.Verdict.{Verdict}
 use Rattle.verdict.specs.Orders.{inOrder, refusal, good, isGood}
 use Rattle.verdict.specs.Refusals.{VERSION, COMMAND, TIME}
 use Rattle.verdict.proofs.Order.{stays, goes-on}
-use Rattle.packet.specs.Frames.{commandOf, unitOf, frameTests, judgedContent, judgedPacket}
+use Rattle.packet.specs.Frames.{commandOf, unitOf, judgedContent, judgedPacket}
 
 module _ (rs : List Row) (p : List ℕ) where
   pub another-version : (getD p 4 0 ≡ 1 → ⊥) → refusal VERSION 0 ≡ judgedContent rs p
@@ -37,10 +38,10 @@ module _ (rs : List Row) (p : List ℕ) where
     unit-decides t = simp (eq-eqb (getD p 4 0) 1 v, le-leb 1 (commandOf p) l, le-leb (commandOf p) 6 h, t)
 
   -- a frame that is refused, and one that is not
-  pub frame-decides : (v : Verdict) → v ≡ inOrder (frameTests p) good → isGood v ≡ false → v ≡ judgedPacket rs p
+  pub frame-decides : (v : Verdict) → v ≡ inOrder (frameTests 1024 p) good → isGood v ≡ false → v ≡ judgedPacket rs p
   unfolding judgedPacket
-  frame-decides v e b = e ∙ sym (stays (frameTests p) (judgedContent rs p) (ap isGood (sym e) ∙ b))
+  frame-decides v e b = e ∙ sym (stays (frameTests 1024 p) (judgedContent rs p) (ap isGood (sym e) ∙ b))
 
-  pub content-decides : isGood (inOrder (frameTests p) good) ≡ true → judgedContent rs p ≡ judgedPacket rs p
+  pub content-decides : isGood (inOrder (frameTests 1024 p) good) ≡ true → judgedContent rs p ≡ judgedPacket rs p
   unfolding judgedPacket
-  content-decides g = sym (goes-on (frameTests p) (judgedContent rs p) refl g)
+  content-decides g = sym (goes-on (frameTests 1024 p) (judgedContent rs p) refl g)

@@ -3,7 +3,8 @@ use Prim.Native.Nat.{ℕ}
 use mathlib.Core.Path.{_≡_, refl}
 use mathlib.Core.List.{List, [], _∷_, _++_, map}
 use lib.ListN.{set, replicate}
-use Rattle.kinds.specs.Table.{rows, findRow}
+use Rattle.frame.specs.Frame.{unitLength, ended, summed}
+use Rattle.kinds.specs.Table.{table, rowsOf, rows, findRow}
 use Rattle.label.specs.Times.{judged, inRanges}
 use Rattle.octets.specs.Numbers.{lowFirst}
 use Rattle.octets.specs.Parts.{part}
@@ -58,5 +59,5 @@ packets =
     ∷ []
 
 pub examples : map (λ (e : List ℕ × Verdict). judgedPacket rows (e .0)) packets ≡ map (λ (e : List ℕ × Verdict). e .1) packets
-unfolding judgedPacket judgedContent judgedUnder judgedUnit inOrder rows findRow textSize endOf walk timely judged inRanges firstFit lowFirst part total
+unfolding judgedPacket judgedContent unitLength ended summed judgedUnder judgedUnit inOrder rowsOf table findRow textSize endOf walk timely judged inRanges firstFit lowFirst part total
 examples = refl

@@ -1,4 +1,3 @@
-pub mod Framing
 pub mod Contents
 pub mod Heads
 pub mod Opening

@@ -4,6 +4,7 @@ use Prim.Native.Nat.{ℕ}
 use mathlib.Core.Bool.{cond}
 use mathlib.Core.List.{List, []}
 use lib.ListN.{length, getD, take, drop, replicate}
+use Rattle.frame.specs.Frame.{unitLength}
 use Rattle.kinds.specs.declared.Row.{Row}
 use Rattle.label.specs.Times.{labelOf}
 use Rattle.octets.specs.Numbers.{lowFirst}
@@ -11,7 +12,7 @@ use Rattle.octets.specs.Parts.{oneByOne}
 use Rattle.verdict.specs.Orders.{isGood}
 use Rattle.packet.specs.declared.Header.{Header}
 use Rattle.packet.specs.declared.Opened.{Opened}
-use Rattle.packet.specs.Frames.{lengthOf, judgedPacket}
+use Rattle.packet.specs.Frames.{judgedPacket}
 
 -- "3-4 serial; 6 user version; 7-12 time label; 13-18, 19-24 source, destination; 27 command"
 abbrev pub headerOf : List ℕ → Header
@@ -33,5 +34,5 @@ noHeader =
 unfoldable pub openedPacket : List Row → List ℕ → Opened
 openedPacket rs p =
     cond (isGood (judgedPacket rs p))
-    (record { verdict = judgedPacket rs p; header = headerOf p; length = lengthOf p })
+    (record { verdict = judgedPacket rs p; header = headerOf p; length = unitLength p })
     (record { verdict = judgedPacket rs p; header = noHeader; length = 0 })

@@ -1,11 +1,11 @@
-// The packet: its judge, its header by value, and its writer.
+// The packet: its judge, its header by value, and its unit as a part.
 ghost use mathlib.Core.Path.{_≡_};
-ghost use Prim.Native.Nat.{_<_, _≤_};
+ghost use Prim.Native.Nat.{_≤_};
 ghost use denote.Ref.{ptr};
 ghost use lib.ListN.{length};
 ghost use Rattle.kinds.specs.Table.{rows};
-ghost use Rattle.verdict.specs.Orders.{inOrder, good, partIn, placeIn};
-ghost use Rattle.packet.specs.Frames.{lengthOf, frameTests, judgedContent, judgedPacket, unitPlace};
+ghost use Rattle.verdict.specs.Orders.{partIn, placeIn};
+ghost use Rattle.packet.specs.Frames.{judgedContent, judgedPacket, unitPlace};
 ghost use Rattle.packet.specs.Headers.{headerOf, noHeader, openedPacket};
 use label::Label;
 use octets::byte_at;
@@ -31,46 +31,6 @@ pub struct Opened {
     pub length: usize,
 }
 
-fn length_of(p: &[u8]) -> usize
-    ensures { λ r. ⌜ r ≡ lengthOf (now (p .entry)) ⌝ }
-    ensures { λ r. ⌜ r < 65536 ⌝ }
-{
-    octets::two_at(p, 24) as usize
-}
-
-// CUT, START, LENGTH, CUT, END and SUM.
-pub fn judge_frame(p: &[u8]) -> Verdict
-    ensures { λ r. ⌜ r ≡ inOrder (frameTests (now (p .entry))) good ⌝ }
-{
-    let n = p.len();
-    if n < 30 {
-        return Verdict::refused(verdict::CUT, 0);
-    }
-    if p[0] != 64 {
-        return Verdict::refused(verdict::START, 0);
-    }
-    if p[1] != 64 {
-        return Verdict::refused(verdict::START, 0);
-    }
-    let l = length_of(p);
-    if 1024 < l {
-        return Verdict::refused(verdict::LENGTH, 0);
-    }
-    if n != 30 + l {
-        return Verdict::refused(verdict::CUT, 0);
-    }
-    if p[28 + l] != 35 {
-        return Verdict::refused(verdict::END, 0);
-    }
-    if p[29 + l] != 35 {
-        return Verdict::refused(verdict::END, 0);
-    }
-    if p[27 + l] != octets::sum(&p[2..27 + l]) {
-        return Verdict::refused(verdict::SUM, 0);
-    }
-    Verdict::good()
-}
-
 // VERSION, COMMAND and TIME of the header, then the unit under the command.
 pub fn judge_content(p: &[u8]) -> Verdict
     ensures { λ r. ⌜ r ≡ judgedContent rows (now (p .entry)) ⌝ }
@@ -88,7 +48,7 @@ pub fn judge_content(p: &[u8]) -> Verdict
     if !Label::read_at(p, 6).is_allowed() {
         return Verdict::refused(verdict::TIME, 0);
     }
-    let l = length_of(p);
+    let l = frame::unit_length(p);
     unit::judge_under(octets::part_of(p, 27, 27 + l), command)
 }
 
@@ -96,7 +56,7 @@ pub fn judge_content(p: &[u8]) -> Verdict
 pub fn judge(p: &[u8]) -> Verdict
     ensures { λ r. ⌜ r ≡ judgedPacket rows (now (p .entry)) ⌝ }
 {
-    let v = judge_frame(p);
+    let v = frame::judge_frame(p);
     if !v.is_good() {
         return v;
     }
@@ -146,7 +106,7 @@ pub fn read(p: &[u8]) -> Opened
     Opened {
         verdict,
         header: header_of(p),
-        length: length_of(p),
+        length: frame::unit_length(p),
     }
 }
 
@@ -181,7 +141,7 @@ pub fn unit_place(p: &[u8]) -> Part
     Part {
         verdict,
         from: 27,
-        to: 27 + length_of(p),
+        to: 27 + frame::unit_length(p),
     }
 }
 

@@ -10,16 +10,17 @@ use borrow.Author.Tests.{le-leb, lt-leb, leb-true, leb-false}
 use lib.Dec.{leb}
 use lib.ListN.{length, take, drop, length-append, length-take, length-drop, take-append-drop}
 use lib.Seq.{take-append-add, drop-append-le, length-take-le}
+use Rattle.frame.specs.Frame.{room}
 use Rattle.verdict.specs.declared.Verdict.{Verdict}
 use Rattle.verdict.specs.Refusals.{STATE, ROOM}
-use Rattle.verdict.specs.Orders.{good}
+use Rattle.verdict.specs.Orders.{inOrder, refusal, good, isGood}
 use Rattle.verdict.proofs.Order.{passed, failed, all-passed}
 use Rattle.reading.specs.declared.Event.the-variants.{More}
 use Rattle.reading.specs.declared.Step.{Step}
 use Rattle.reading.specs.Values.{asks, packetOf}
-use Rattle.reading.specs.Standing.{room}
 use Rattle.reading.specs.Finding.{first}
-use Rattle.reading.specs.Calls.{State, Answer, allZero, fresh, heldBytes, sound, callTests, restOf, answerBy, answered, judgedCall, refusedCall, called}
+use Rattle.octets.specs.Searches.{allZero}
+use Rattle.reading.specs.Calls.{State, Answer, fresh, heldBytes, sound, callTests, restOf, answerBy, answered, judgedCall, refusedCall, called}
 use Rattle.reading.specs.Offers.{heardIn}
 use Rattle.reading.proofs.Worths.{worth, packet-kept, packet-copied}
 use Rattle.reading.proofs.Found.{Asked, Gave, either, first-early, heardAt}
@@ -44,15 +45,16 @@ are-rules M st h s z = simp (le-leb (st .held) (room M) h, le-leb (st .skipped) 
 
 -- the three answers of a call
 module _ (M : ℕ) (st : State) (piece out : List ℕ) where
-  pub call-state : sound M st ≡ false → called M st piece out ≡ refusedCall STATE st out
+  pub call-refused : (v : Verdict) → inOrder (callTests M st out) good ≡ v → isGood v ≡ false
+      → called M st piece out ≡ refusedCall (v .number) st out
   unfolding called
-  call-state s = ap (λ (v : Verdict). judgedCall v (answered M st piece out) (λ n. refusedCall n st out)) (failed _ _ good s)
+  call-refused v e b = rw e (cc b)
+
+  pub call-state : sound M st ≡ false → called M st piece out ≡ refusedCall STATE st out
+  call-state s = call-refused (refusal STATE 0) (failed _ _ good s) refl
 
   pub call-room : sound M st ≡ true → length out < room M → called M st piece out ≡ refusedCall ROOM st out
-  unfolding called
-  call-room s h =
-      ap (λ (v : Verdict). judgedCall v (answered M st piece out) (λ n. refusedCall n st out))
-      (passed _ _ good s ∙ failed _ _ good (lt-leb (room M) (length out) h))
+  call-room s h = call-refused (refusal ROOM 0) (passed _ _ good s ∙ failed _ _ good (lt-leb (room M) (length out) h)) refl
 
   pub call-good : sound M st ≡ true → room M ≤ length out → called M st piece out ≡ answered M st piece out
   unfolding called

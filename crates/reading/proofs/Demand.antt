@@ -8,9 +8,10 @@ use mathlib.Core.Logic.{⊎-elim}
 use mathlib.Core.Path.{_≡_, refl, sym, ap, _∙_}
 use lib.ListN.{length, drop, length-append, length-drop}
 use lib.Seq.{drop-length}
+use Rattle.frame.specs.Frame.{room}
 use Rattle.reading.specs.declared.Standing.the-variants.{Wait}
 use Rattle.reading.specs.Values.{asks}
-use Rattle.reading.specs.Standing.{room, stands}
+use Rattle.reading.specs.Standing.{stands}
 use Rattle.reading.specs.Finding.{Heard, Reading, after, readOn, reading}
 use Rattle.reading.specs.Calls.{State, Answer, fresh, heldBytes, padTo, answerBy, called}
 use Rattle.reading.specs.Offers.{Roomy, heardIn, Offered, Streamed, joined, stateOf, countedAll, OfferEnds, StreamEnds, Reached}

@@ -7,6 +7,7 @@ use lib.Dec.{leb, eqb}
 use mathlib.Core.List.{List, [], _∷_, _++_, map}
 use mathlib.Core.Path.{_≡_, refl, ap, _∙_}
 use lib.ListN.{length, take, drop, replicate, set}
+use Rattle.frame.specs.Frame.{room, unitLength, ended, summed}
 use Rattle.octets.specs.Numbers.{lowFirst}
 use Rattle.octets.specs.Sums.{total}
 use Rattle.octets.proofs.Examples.{A}
@@ -14,9 +15,10 @@ use Rattle.verdict.specs.Orders.{inOrder}
 use Rattle.reading.specs.declared.Event.{Event}
 use Rattle.reading.specs.declared.Event.the-variants.{More, Noise, Length, End, Sum, Packet, Refused}
 use Rattle.reading.specs.Values.{told, packetOf}
-use Rattle.reading.specs.Standing.{room, whenThere, unitLength, ended, summed, judgedFrame, started, stands}
+use Rattle.reading.specs.Standing.{whenThere, judgedFrame, started, stands}
 use Rattle.reading.specs.Finding.{noiseAt, onward, more, noise, hit, found, first, readOn, reading, Heard, Reading}
-use Rattle.reading.specs.Calls.{State, Answer, padTo, every, heldBytes, sound, answerBy, called}
+use Rattle.octets.specs.Searches.{every}
+use Rattle.reading.specs.Calls.{State, Answer, padTo, heldBytes, sound, answerBy, called}
 use Rattle.reading.specs.Offers.{stateOf}
 
 -- what a call is given: held bytes, the count, a piece

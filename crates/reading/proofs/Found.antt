@@ -9,13 +9,14 @@ use mathlib.Core.Path.{_≡_, refl, sym, ap, _∙_}
 use borrow.Author.Tests.{eqb-true, eqb-false}
 use lib.Dec.{eqb}
 use lib.ListN.{length, take, drop, length-take, take-append-drop}
+use Rattle.frame.specs.Frame.{room}
 use Rattle.reading.specs.declared.Event.{Event}
 use Rattle.reading.specs.declared.Event.the-variants.{More, Noise}
 use Rattle.reading.specs.declared.Standing.{Standing}
 use Rattle.reading.specs.declared.Standing.the-variants.{Wait, Skip, Hit}
 use Rattle.reading.specs.declared.Step.{Step}
 use Rattle.reading.specs.Values.{asks, told, packetOf}
-use Rattle.reading.specs.Standing.{room, stands}
+use Rattle.reading.specs.Standing.{stands}
 use Rattle.reading.specs.Finding.{noiseAt, onward, more, noise, hit, found, first, Heard, Reading, after, readOn, reading}
 use Rattle.reading.proofs.Worths.{worth}
 use Rattle.reading.proofs.Stands.{stays, Bounds, bounds, nothing-waits}

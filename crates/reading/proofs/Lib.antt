@@ -1,6 +1,7 @@
 pub mod Worths
 pub mod Stands
 pub mod Found
+pub mod Frames
 pub mod Pads
 pub mod Call
 pub mod Account

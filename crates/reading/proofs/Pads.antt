@@ -8,7 +8,8 @@ use borrow.Author.Tests.{eqb-true}
 use lib.Dec.{eqb}
 use lib.ListN.{length, take, drop, replicate, length-append, length-replicate, length-drop, take-append-drop}
 use lib.Seq.{take-append-seam, drop-append-seam, length-take-le}
-use Rattle.reading.specs.Calls.{padTo, every, allZero}
+use Rattle.octets.specs.Searches.{every, allZero}
+use Rattle.reading.specs.Calls.{padTo}
 
 pub pad-long : (n : ℕ) (xs : List ℕ) → length xs ≤ n → length (padTo n xs) ≡ n
 unfolding padTo

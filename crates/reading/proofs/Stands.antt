@@ -1,21 +1,21 @@
 -- What stands at a position: a decision survives more bytes (Stable), falls on none earlier than the byte that decides (Early), and
 -- its bounds. Each along the definition, one law for each of its two forms of choice. Assumes nothing.
-use Prim.Native.Nat.{ℕ, _+_, _≤_, _<_}
+use Prim.Native.Nat.{ℕ, _≤_, _<_}
 use native.Mathlib.Omega.{arith}
 use mathlib.Core.Bool.{Bool, true, false, cond, false≢true}
 use mathlib.Core.List.{List, [], _++_}
 use mathlib.Core.Path.{_≡_, refl, sym, ap, subst, _∙_}
 use borrow.Author.Tests.{le-leb, lt-leb, leb-true, leb-false}
 use lib.Dec.{leb, eqb}
-use lib.ListN.{length, getD, take, drop, length-append, length-take, length-drop, List·getD-append, take-append-drop}
-use lib.Seq.{take-append-le, drop-append-le}
-use Rattle.octets.specs.Numbers.{lowFirst}
+use lib.ListN.{length, getD, take, drop, length-append, length-take, List·getD-append, take-append-drop}
+use Rattle.frame.specs.Frame.{packetLength, room, unitLength, ended, summed}
+use Rattle.frame.proofs.Framed.{unit-kept, ended-kept, summed-kept}
 use Rattle.reading.specs.declared.Event.the-variants.{Length}
 use Rattle.reading.specs.declared.Standing.{Standing}
 use Rattle.reading.specs.declared.Standing.the-variants.{Wait, Skip, Hit}
 use Rattle.reading.specs.Values.{asks}
 use Rattle.reading.proofs.Worths.{worth}
-use Rattle.reading.specs.Standing.{room, whenThere, unitLength, ended, summed, judgedFrame, started, stands}
+use Rattle.reading.specs.Standing.{whenThere, judgedFrame, started, stands}
 
 -- a decision
 abbrev pub decided : Standing → Bool
@@ -68,37 +68,18 @@ module _ (xs ys : List ℕ) where
   byte-kept : (i n : ℕ) → i < length xs → eqb (getD (xs ++ ys) i 0) n ≡ eqb (getD xs i 0) n
   byte-kept i n h = ap (λ (b : ℕ). eqb b n) (List·getD-append xs ys 0 i h)
 
-  unit-kept : 26 ≤ length xs → unitLength (xs ++ ys) ≡ unitLength xs
-  unfolding unitLength
-  unit-kept h =
-      ap lowFirst
-      (ap (take 2) (drop-append-le 24 xs ys (omega arith))
-      ∙ take-append-le 2 (drop 24 xs) ys (omega (arith, length-drop 24 xs)))
-
-  ended-kept : (l : ℕ) → 30 + l ≤ length xs → ended l (xs ++ ys) ≡ ended l xs
-  unfolding ended
-  ended-kept l h = simp (byte-kept (28 + l) 35 (omega arith), byte-kept (29 + l) 35 (omega arith))
-
-  summed-kept : (l : ℕ) → 30 + l ≤ length xs → summed l (xs ++ ys) ≡ summed l xs
-  unfolding summed
-  summed-kept l h =
-      let part : take (25 + l) (drop 2 (xs ++ ys)) ≡ take (25 + l) (drop 2 xs) =
-      ap (take (25 + l)) (drop-append-le 2 xs ys (omega arith))
-      ∙ take-append-le (25 + l) (drop 2 xs) ys (omega (arith, length-drop 2 xs)) in
-      simp (part, List·getD-append xs ys 0 (27 + l) (omega arith))
-
-  frame-kept : (l : ℕ) → 30 + l ≤ length xs → judgedFrame l (xs ++ ys) ≡ judgedFrame l xs
+  frame-kept : (l : ℕ) → packetLength l ≤ length xs → judgedFrame l (xs ++ ys) ≡ judgedFrame l xs
   unfolding judgedFrame
-  frame-kept l h = simp (ended-kept l h, summed-kept l h)
+  frame-kept l h = simp (ended-kept xs ys l h, summed-kept xs ys l h)
 
   started-kept : (M : ℕ) → decided (started M xs) ≡ true → started M (xs ++ ys) ≡ started M xs
   unfolding started
   started-kept M =
       there-kept 26 xs ys _ _
-      (λ h. choice-kept (leb (unitLength xs) M) _ _ _ _ _ (ap (λ (l : ℕ). leb l M) (unit-kept h))
+      (λ h. choice-kept (leb (unitLength xs) M) _ _ _ _ _ (ap (λ (l : ℕ). leb l M) (unit-kept xs ys h))
       (λ d.
-      ap (λ (l : ℕ). whenThere (30 + l) (xs ++ ys) (judgedFrame l (xs ++ ys))) (unit-kept h)
-      ∙ there-kept (30 + unitLength xs) xs ys _ _ (λ k _. frame-kept (unitLength xs) k) d)
+      ap (λ (l : ℕ). whenThere (packetLength l) (xs ++ ys) (judgedFrame l (xs ++ ys))) (unit-kept xs ys h)
+      ∙ there-kept (packetLength (unitLength xs)) xs ys _ _ (λ k _. frame-kept (unitLength xs) k) d)
       (same (Hit Length 26 1)))
 
   -- Stable: a decision survives more bytes
@@ -122,24 +103,24 @@ Bounds M xs Wait = length xs < room M
 Bounds M xs (Skip k) = (1 ≤ k) × (k ≤ 2) × (k ≤ length xs)
 Bounds M xs (Hit e k p) = (p ≡ worth e) × (1 ≤ p) × (p ≤ k) × (k ≤ length xs) × (k ≤ room M) × (asks e ≡ false)
 
-there-bounds : (M n : ℕ) (xs : List ℕ) (v : Standing) → n ≤ room M → (n ≤ length xs → Bounds M xs v) → Bounds M xs (whenThere n xs v)
-there-bounds M n xs v h b = by-test (leb n (length xs)) refl
+-- what holds of each thing that may stand there holds of what does, along the definition
+pub there-any : (P : Standing → Type 0) (n : ℕ) (xs : List ℕ) (v : Standing) → (length xs < n → P Wait) → (n ≤ length xs → P v)
+    → P (whenThere n xs v)
+there-any P n xs v w h = by-test (leb n (length xs)) refl
   where
-    by-test : (t : Bool) → leb n (length xs) ≡ t → Bounds M xs (whenThere n xs v)
-    by-test true e = let k : n ≤ length xs = leb-true n (length xs) e in subst (Bounds M xs) (sym (there n xs v k)) (b k)
-    by-test false e =
-        let k : length xs < n = leb-false n (length xs) e in
-        subst (Bounds M xs) (sym (not-there n xs v k)) (omega arith)
+    by-test : (t : Bool) → leb n (length xs) ≡ t → P (whenThere n xs v)
+    by-test true e = let k : n ≤ length xs = leb-true n (length xs) e in subst P (sym (there n xs v k)) (h k)
+    by-test false e = let k : length xs < n = leb-false n (length xs) e in subst P (sym (not-there n xs v k)) (w k)
 
-choice-bounds : (M : ℕ) (xs : List ℕ) (t : Bool) (a b : Standing) → (t ≡ true → Bounds M xs a) → (t ≡ false → Bounds M xs b) → Bounds M xs (cond t a b)
-choice-bounds M xs true a b f g = f refl
-choice-bounds M xs false a b f g = g refl
+pub choice-any : (P : Standing → Type 0) (t : Bool) (a b : Standing) → (t ≡ true → P a) → (t ≡ false → P b) → P (cond t a b)
+choice-any P true a b f g = f refl
+choice-any P false a b f g = g refl
 
-frame-bounds : (M l : ℕ) (xs : List ℕ) → l ≤ M → 30 + l ≤ length xs → Bounds M xs (judgedFrame l xs)
+frame-bounds : (M l : ℕ) (xs : List ℕ) → l ≤ M → packetLength l ≤ length xs → Bounds M xs (judgedFrame l xs)
 unfolding judgedFrame worth asks room
 frame-bounds M l xs h k =
-    choice-bounds M xs (ended l xs) _ _
-    (λ _. choice-bounds M xs (summed l xs) _ _
+    choice-any (Bounds M xs) (ended l xs) _ _
+    (λ _. choice-any (Bounds M xs) (summed l xs) _ _
     (λ _. (refl, omega arith, omega arith, k, omega arith, refl))
     (λ _. (refl, omega arith, omega arith, k, omega arith, refl)))
     (λ _. (refl, omega arith, omega arith, k, omega arith, refl))
@@ -147,15 +128,15 @@ frame-bounds M l xs h k =
 pub bounds : (M : ℕ) (xs : List ℕ) → Bounds M xs (stands M xs)
 unfolding stands started room worth asks
 bounds M xs =
-    there-bounds M 1 xs _ (omega arith)
-    (λ one. choice-bounds M xs (eqb (getD xs 0 0) 64) _ _
-    (λ _. there-bounds M 2 xs _ (omega arith)
-    (λ two. choice-bounds M xs (eqb (getD xs 1 0) 64) _ _
-    (λ _. there-bounds M 26 xs _ (omega arith)
-    (λ head. choice-bounds M xs (leb (unitLength xs) M) _ _
+    there-any (Bounds M xs) 1 xs _ (λ w. omega arith)
+    (λ one. choice-any (Bounds M xs) (eqb (getD xs 0 0) 64) _ _
+    (λ _. there-any (Bounds M xs) 2 xs _ (λ w. omega arith)
+    (λ two. choice-any (Bounds M xs) (eqb (getD xs 1 0) 64) _ _
+    (λ _. there-any (Bounds M xs) 26 xs _ (λ w. omega arith)
+    (λ head. choice-any (Bounds M xs) (leb (unitLength xs) M) _ _
     (λ e.
     let l : unitLength xs ≤ M = leb-true (unitLength xs) M e in
-    there-bounds M (30 + unitLength xs) xs _ (omega arith) (frame-bounds M (unitLength xs) xs l))
+    there-any (Bounds M xs) (packetLength (unitLength xs)) xs _ (λ w. omega arith) (frame-bounds M (unitLength xs) xs l))
     (λ _. (refl, omega arith, omega arith, head, omega arith, refl))))
     (λ _. (omega arith, omega arith, two))))
     (λ _. (omega arith, omega arith, one)))

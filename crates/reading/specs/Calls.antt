@@ -1,10 +1,12 @@
 -- Document 01, "Reading a stream": one call of the receiver, over the largest unit M.
 -- Assumes nothing.
 use Prim.Native.Nat.{ℕ, _-_}
-use mathlib.Core.Bool.{Bool, true, _&&_, cond}
+use mathlib.Core.Bool.{Bool, _&&_, cond}
 use mathlib.Core.List.{List, [], _∷_, _++_}
-use lib.Dec.{leb, eqb}
+use lib.Dec.{leb}
 use lib.ListN.{length, take, drop, replicate}
+use Rattle.frame.specs.Frame.{room}
+use Rattle.octets.specs.Searches.{allZero}
 use Rattle.verdict.specs.declared.Verdict.{Verdict}
 use Rattle.verdict.specs.Refusals.{STATE, ROOM}
 use Rattle.verdict.specs.Orders.{Test, _or-else_, inOrder, good, isGood}
@@ -12,7 +14,6 @@ use Rattle.reading.specs.declared.Event.{Event}
 use Rattle.reading.specs.declared.Event.the-variants.{Refused}
 use Rattle.reading.specs.declared.Step.{Step}
 use Rattle.reading.specs.Values.{packetOf}
-use Rattle.reading.specs.Standing.{room}
 use Rattle.reading.specs.Finding.{first}
 
 -- "up to 1,054 held bytes and a skipped count of 0 to 65,534"
@@ -24,15 +25,6 @@ pub record State : Type 0 where
 -- "unused room in the hold reads zero": a row of n bytes that begins so
 unfoldable pub padTo : ℕ → List ℕ → List ℕ
 padTo n xs = xs ++ replicate (n - length xs) 0
-
--- whether every byte passes a test
-unfoldable pub every : (ℕ → Bool) → List ℕ → Bool
-every f [] = true
-every f (x ∷ xs) = f x && every f xs
-
--- "reads zero"
-abbrev pub allZero : List ℕ → Bool
-allZero = every (λ b. eqb b 0)
 
 -- "a fresh one is empty with count 0"
 abbrev pub fresh : ℕ → State

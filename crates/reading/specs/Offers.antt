@@ -5,8 +5,8 @@ use mathlib.Core.Bool.{true, false}
 use mathlib.Core.List.{List, [], _∷_, _++_}
 use mathlib.Core.Path.{_≡_}
 use lib.ListN.{length, drop}
+use Rattle.frame.specs.Frame.{room}
 use Rattle.reading.specs.Values.{asks, startByte, packetOf}
-use Rattle.reading.specs.Standing.{room}
 use Rattle.reading.specs.Finding.{Heard, Reading}
 use Rattle.reading.specs.Calls.{State, Answer, padTo, fresh, heldBytes, called}
 

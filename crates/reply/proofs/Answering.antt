@@ -6,13 +6,13 @@ use mathlib.Core.List.{List, []}
 use mathlib.Core.Path.{_≡_, refl, sym, ap, subst, _∙_}
 use borrow.Author.Tests.{eqb-false}
 use lib.ListN.{take, drop}
+use Rattle.frame.specs.Frame.{frameTests}
 use Rattle.kinds.specs.declared.Row.{Row}
 use Rattle.label.specs.declared.Label.{Label}
 use Rattle.label.specs.Times.{judged, allowed}
 use Rattle.octets.specs.Parts.{within, part, putAt}
 use Rattle.output.specs.Writing.{packetVerdict, writtenPacket}
 use Rattle.packet.specs.declared.Header.{Header}
-use Rattle.packet.specs.Frames.{frameTests}
 use Rattle.packet.specs.Headers.{headerOf}
 use Rattle.output.specs.Packets.{packetBytes}
 use Rattle.unit.specs.Units.{judgedUnder}
@@ -60,16 +60,16 @@ module _ (rs : List Row) (p : List ℕ) (t : Label) (out : List ℕ) where
       let q : isGood (replyVerdict rs p t out) ≡ false = ap isGood (sym e) ∙ b in
       (ap (λ (x : Verdict). record { verdict = x; due = Nothing }) e ∙ simp q, simp q)
 
-  pub frame-refuses : (v : Verdict) → v ≡ inOrder (frameTests p) good → isGood v ≡ false
+  pub frame-refuses : (v : Verdict) → v ≡ inOrder (frameTests 1024 p) good → isGood v ≡ false
       → (_≡_ {A = Answer} (record { verdict = v; due = Nothing }) (answered rs p t out)) × (out ≡ writtenReply rs p t out)
   unfolding replyVerdict
   frame-refuses v e b =
-      silent v (e ∙ sym (stays (frameTests p) (inOrder (replyTests (dueTo rs p) t out) good) (ap isGood (sym e) ∙ b))) b
+      silent v (e ∙ sym (stays (frameTests 1024 p) (inOrder (replyTests (dueTo rs p) t out) good) (ap isGood (sym e) ∙ b))) b
 
-  module _ (g : isGood (inOrder (frameTests p) good) ≡ true) (d : Due) (told : d ≡ dueTo rs p) where
+  module _ (g : isGood (inOrder (frameTests 1024 p) good) ≡ true) (d : Due) (told : d ≡ dueTo rs p) where
     verdict-is : inOrder (replyTests d t out) good ≡ replyVerdict rs p t out
     unfolding replyVerdict
-    verdict-is = ap (λ (x : Due). inOrder (replyTests x t out) good) told ∙ sym (goes-on (frameTests p) (inOrder (replyTests (dueTo rs p) t out) good) refl g)
+    verdict-is = ap (λ (x : Due). inOrder (replyTests x t out) good) told ∙ sym (goes-on (frameTests 1024 p) (inOrder (replyTests (dueTo rs p) t out) good) refl g)
 
     pub not-due : (v : Verdict) → commandFor d ≡ 0 → v ≡ good → (_≡_ {A = Answer} (record { verdict = v; due = Nothing }) (answered rs p t out)) × (out ≡ writtenReply rs p t out)
     unfolding answered writtenReply inOrder

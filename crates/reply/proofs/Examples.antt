@@ -3,7 +3,8 @@ use Prim.Native.Nat.{ℕ}
 use mathlib.Core.Path.{_≡_, refl}
 use mathlib.Core.List.{List, [], _∷_, map}
 use lib.ListN.{set, replicate}
-use Rattle.kinds.specs.Table.{rows, findRow}
+use Rattle.frame.specs.Frame.{unitLength, ended, summed}
+use Rattle.kinds.specs.Table.{table, rowsOf, rows, findRow}
 use Rattle.label.specs.declared.Label.{Label}
 use Rattle.label.specs.Times.{judged, inRanges}
 use Rattle.octets.specs.Numbers.{lowFirst}
@@ -61,5 +62,5 @@ replies =
     ∷ []
 
 pub examples : map (λ (e : List ℕ × Label × ℕ × Answer). answered rows (e .0) (e .1) (replicate (e .2) 0)) replies ≡ map (λ (e : List ℕ × Label × ℕ × Answer). e .3) replies
-unfolding answered replyVerdict dueTo judgedContent judgedUnder judgedUnit inOrder rows findRow textSize endOf walk timely judged inRanges firstFit lowFirst part total
+unfolding answered replyVerdict dueTo judgedContent unitLength ended summed judgedUnder judgedUnit inOrder rowsOf table findRow textSize endOf walk timely judged inRanges firstFit lowFirst part total
 examples = refl

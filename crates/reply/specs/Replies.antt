@@ -5,12 +5,13 @@ use mathlib.Core.Bool.{Bool, true, false, _||_, _&&_, cond}
 use mathlib.Core.List.{List, [], _∷_}
 use lib.Dec.{leb, eqb}
 use lib.ListN.{length}
+use Rattle.frame.specs.Frame.{frameTests}
 use Rattle.kinds.specs.declared.Row.{Row}
 use Rattle.label.specs.declared.Label.{Label}
 use Rattle.label.specs.Times.{judged, allowed}
 use Rattle.octets.specs.Parts.{putAt}
 use Rattle.packet.specs.declared.Header.{Header}
-use Rattle.packet.specs.Frames.{commandOf, frameTests, judgedContent}
+use Rattle.packet.specs.Frames.{commandOf, judgedContent}
 use Rattle.packet.specs.Headers.{headerOf}
 use Rattle.output.specs.Packets.{packetBytes}
 use Rattle.verdict.specs.declared.Verdict.{Verdict}
@@ -61,7 +62,7 @@ replyTests d t out = cond (isDue d) (dueTests t out) []
 
 -- "Earlier refusals give no reply .. and come back as that refusal."
 unfoldable pub replyVerdict : List Row → List ℕ → Label → List ℕ → Verdict
-replyVerdict rs p t out = inOrder (frameTests p) (inOrder (replyTests (dueTo rs p) t out) good)
+replyVerdict rs p t out = inOrder (frameTests 1024 p) (inOrder (replyTests (dueTo rs p) t out) good)
 
 unfoldable pub answered : List Row → List ℕ → Label → List ℕ → Answer
 answered rs p t out =

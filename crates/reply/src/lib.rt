@@ -38,7 +38,7 @@ pub fn answer_to(p: &[u8], label: Label, out: &mut [u8]) -> Answer
     ensures { λ r. ⌜ r ≡ answered rows (now (p .entry)) label (now (out .entry)) ⌝ }
     ensures { λ r. ⌜ now (out .exit) ≡ writtenReply rows (now (p .entry)) label (now (out .entry)) ⌝ }
 {
-    let frame = packet::judge_frame(p);
+    let frame = frame::judge_frame(p);
     if !frame.is_good() {
         return Answer {
             verdict: frame,

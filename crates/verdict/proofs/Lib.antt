@@ -1,2 +1,3 @@
 pub mod Refusing
 pub mod Order
+pub mod Walking

@@ -73,11 +73,30 @@ joined-stays ts us rest e = joined ts us rest ∙ stays ts (inOrder us rest) e
 pub joined-on : (ts us : List Test) (rest : Verdict) → refusing ts ≡ true → isGood (inOrder ts good) ≡ true → inOrder (ts ++ us) rest ≡ inOrder us rest
 joined-on ts us rest n g = joined ts us rest ∙ goes-on ts (inOrder us rest) n g
 
--- of tests that all held the first ones held, and their verdict is good
+-- of tests that all held the first ones held, and the last
 pub held-left : (ts us : List Test) → Held (ts ++ us) → Held ts
 held-left [] us h = tt
 held-left (t ∷ ts) us h = (h .0, held-left ts us (h .1))
 
+pub held-right : (ts us : List Test) → Held (ts ++ us) → Held us
+held-right [] us h = h
+held-right (t ∷ ts) us h = held-right ts us (h .1)
+
+-- and where both orders held, one after the other does
+pub held-append : (ts us : List Test) → Held ts → Held us → Held (ts ++ us)
+held-append [] us h k = k
+held-append (t ∷ ts) us h k = (h .0, held-append ts us (h .1) k)
+
+-- one order after another refuses where both do
+pub refusing-append : (ts us : List Test) → refusing ts ≡ true → refusing us ≡ true → refusing (ts ++ us) ≡ true
+refusing-append [] us p q = q
+refusing-append (t ∷ ts) us p q = by-test (isGood (t .refused)) p (refusing-append ts us)
+  where
+    by-test : (b : Bool) → not b && refusing ts ≡ true → (refusing ts ≡ true → refusing us ≡ true → refusing (ts ++ us) ≡ true) → not b && refusing (ts ++ us) ≡ true
+    by-test true p ih = p
+    by-test false p ih = ih p q
+
+-- tests that all held give a good verdict
 pub held-good : (ts : List Test) → Held ts → isGood (inOrder ts good) ≡ true
 held-good ts h = ap isGood (all-passed ts good h)
 

@@ -30,7 +30,7 @@ returns-5 : tie.Need-returns-5
 returns-5 c =
     let p = c .before .before .before .before .before .before .before .before .before .before .before .before .args .p .now in
     c .judge-under .ensures
-    ∙ ap (judgedUnder rows (c .before .before .before .before .before .before .before .before .byte-at2 .result)) (c .before .part-of .ensures .0 ∙ ap (λ (l : ℕ). part p 27 (27 + l)) (c .before .before .length-of .ensures .0))
+    ∙ ap (judgedUnder rows (c .before .before .before .before .before .before .before .before .byte-at2 .result)) (c .before .part-of .ensures .0 ∙ ap (λ (l : ℕ). part p 27 (27 + l)) (c .before .before .unit-length .ensures .0))
     ∙ ap (λ (c : ℕ). judgedUnder rows c (unitOf p)) (c .before .before .before .before .before .before .before .before .byte-at2 .ensures)
     ∙ unit-decides rows p (sym (c .before .before .before .before .before .before .before .before .before .before .byte-at .ensures) ∙ c .before .before .before .before .before .before .before .before .before .if1 .left) (omega (arith, c .before .before .before .before .before .before .before .before .byte-at2 .ensures, c .before .before .before .before .before .before .before .if2 .left)) (omega (arith, c .before .before .before .before .before .before .before .before .byte-at2 .ensures, c .before .before .before .before .before .before .if3 .left)) (on (c .before .before .before .before .is-allowed .ensures ∙ ap (λ (l : Label). allowed (judged l)) (c .before .before .before .before .before .read-at .ensures)) (c .before .before .before .if4 .left))
 

@@ -10,7 +10,7 @@ returns : tie.Need-returns
 returns c = not-opened rows (c .before .before .before .before .before .args .p .now) (c .before .before .before .judge .result) (c .before .before .before .judge .ensures) (c .no-header .result) (off (c .before .before .is-good .ensures) (c .before .if1 .taken)) (c .no-header .ensures)
 
 returns-2 : tie.Need-returns-2
-returns-2 c = opened rows (c .before .before .before .before .before .before .args .p .now) (c .before .before .before .before .judge .result) (c .before .before .before .before .judge .ensures) (c .before .header-of .result) (c .length-of .result) (on (c .before .before .before .is-good .ensures) (c .before .before .if1 .left)) (c .before .header-of .ensures) (c .length-of .ensures .0)
+returns-2 c = opened rows (c .before .before .before .before .before .before .args .p .now) (c .before .before .before .before .judge .result) (c .before .before .before .before .judge .ensures) (c .before .header-of .result) (c .unit-length .result) (on (c .before .before .before .is-good .ensures) (c .before .before .if1 .left)) (c .before .header-of .ensures) (c .unit-length .ensures .0)
 
 pub read-spec : {M : Type 1} → statement M
 read-spec =

@@ -11,7 +11,7 @@ returns : tie.Need-returns
 returns c = c .refused .ensures ∙ no-unit rows (c .before .before .before .before .before .args .p .now) (c .before .before .before .judge .result) (c .before .before .before .judge .ensures) (off (c .before .before .is-good .ensures) (c .before .if1 .taken))
 
 returns-2 : tie.Need-returns-2
-returns-2 c = unit-there rows (c .before .before .before .before .before .args .p .now) (c .before .before .before .judge .result) (c .before .before .before .judge .ensures) (c .length-of .result) (on (c .before .before .is-good .ensures) (c .before .if1 .left)) (c .length-of .ensures .0)
+returns-2 c = unit-there rows (c .before .before .before .before .before .args .p .now) (c .before .before .before .judge .result) (c .before .before .before .judge .ensures) (c .unit-length .result) (on (c .before .before .is-good .ensures) (c .before .if1 .left)) (c .unit-length .ensures .0)
 
 pub unit-place-spec : {M : Type 1} → statement M
 unit-place-spec =
