@@ -3,12 +3,12 @@ use Prim.Native.Nat.{ℕ, zero, suc, _+_, _-_, _≤_, _<_}
 use native.Mathlib.Nat.{eq-or-lt-of-le}
 use native.Mathlib.Numerals.{add-one}
 use native.Mathlib.Omega.{arith}
-use mathlib.Core.Bool.{Bool, true, false, _&&_, not}
-use mathlib.Core.List.{List, [], _∷_, _++_}
+use mathlib.Core.Bool.{true, false}
+use mathlib.Core.List.{List, _++_}
 use mathlib.Core.Logic.{⊎-elim}
 use mathlib.Core.Path.{_≡_, refl, ap, subst, _∙_}
 use Rattle.verdict.specs.Orders.{Test, inOrder, good, isGood, Held, refusing}
-use Rattle.verdict.proofs.Order.{joined, all-passed, joined-stays, held-left}
+use Rattle.verdict.proofs.Order.{joined, all-passed, joined-stays, refusing-append, held-left, held-right, held-append}
 use Rattle.devices.specs.Sections.{eachEntry}
 
 module _ (f : ℕ → List Test) where
@@ -33,19 +33,6 @@ module _ (f : ℕ → List Test) where
       ∙ joined (f i) (eachEntry f (i + 1) (n - (i + 1))) good
       ∙ all-passed (f i) (inOrder (eachEntry f (i + 1) (n - (i + 1))) good) e
 
--- one order after another refuses where both do
-pub refusing-append : (ts us : List Test) → refusing ts ≡ true → refusing us ≡ true → refusing (ts ++ us) ≡ true
-refusing-append [] us p q = q
-refusing-append (t ∷ ts) us p q = by-test (isGood (t .refused)) p (refusing-append ts us)
-  where
-    by-test : (b : Bool) → not b && refusing ts ≡ true → (refusing ts ≡ true → refusing us ≡ true → refusing (ts ++ us) ≡ true) → not b && refusing (ts ++ us) ≡ true
-    by-test true p ih = p
-    by-test false p ih = ih p q
-
-held-right : (ts us : List Test) → Held (ts ++ us) → Held us
-held-right [] us h = h
-held-right (t ∷ ts) us h = held-right ts us (h .1)
-
 -- where each entry's tests refuse, all do
 pub refusing-each : (f : ℕ → List Test) → ((k : ℕ) → refusing (f k) ≡ true) → (i n : ℕ) → refusing (eachEntry f i n) ≡ true
 unfolding eachEntry
@@ -61,10 +48,6 @@ held-each f i (suc n) k h l b =
     (λ (e : i ≡ k). subst (λ (m : ℕ). Held (f m)) e (held-left (f i) (eachEntry f (suc i) n) h))
     (λ (m : i < k). held-each f (suc i) n k (held-right (f i) (eachEntry f (suc i) n) h) m (omega arith))
     (eq-or-lt-of-le l)
-
-held-append : (ts us : List Test) → Held ts → Held us → Held (ts ++ us)
-held-append [] us h k = k
-held-append (t ∷ ts) us h k = (h .0, held-append ts us (h .1) k)
 
 -- and where those of each entry hold, all do
 pub each-held : (f : ℕ → List Test) (i n : ℕ) → ((k : ℕ) → i ≤ k → k < i + n → Held (f k)) → Held (eachEntry f i n)

@@ -12,14 +12,14 @@ use Rattle.octets.specs.Searches.{firstRefused}
 use Rattle.verdict.specs.declared.Part.{Part}
 use Rattle.verdict.specs.Orders.{inOrder, refusal, good, isGood, refusing, noPart, partBy}
 use Rattle.verdict.specs.Refusals.{UNLISTED}
-use Rattle.verdict.proofs.Order.{passed, failed, good-is, joined-stays, joined-on}
+use Rattle.verdict.proofs.Order.{passed, failed, good-is, joined-stays, joined-on, refusing-append}
 use Rattle.devices.specs.declared.Section.{Section}
 use Rattle.devices.specs.declared.Judgement.{Judgement}
 use Rattle.devices.specs.Keys.{below}
 use Rattle.devices.specs.Sections.{countAt, entryAt, keyAt, rises, entryOf, isListed}
 use Rattle.devices.specs.Tables.{partsFrom, systemTests, systemsTests, partTests, partsTests, tailTest, tableTests, judged, refusedBy, judgement, listedTest, partAt, foundPlace}
 use Rattle.devices.proofs.Entries.{entry-inside}
-use Rattle.devices.proofs.Each.{refusing-append, refusing-each}
+use Rattle.devices.proofs.Each.{refusing-each}
 use Rattle.devices.proofs.Rising.{Sought, sought}
 use Rattle.devices.proofs.Merging.{listed-is, entry-is}
 use Rattle.devices.proofs.Good.{good-sound}

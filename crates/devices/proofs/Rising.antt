@@ -1,6 +1,6 @@
 -- A key sought in entries that rise: the first entry that does not stand below it either has it, or none has. Assumes nothing.
 use Prim.Native.Nat.{ℕ, _+_, _-_, _≤_, _<_}
-use native.Mathlib.Nat.{eq-or-lt-of-le}
+use native.Mathlib.Nat.{eq-or-lt-of-le, zero-add}
 use native.Mathlib.Omega.{arith}
 use mathlib.Core.Bool.{Bool, true, false, not, _&&_, true≢false, false≢true}
 use mathlib.Core.List.{List}
@@ -9,30 +9,9 @@ use mathlib.Core.Path.{_≡_, refl, sym, ap, subst, _∙_}
 use borrow.Author.Tests.{le-ltb, ltb-true, ltb-false, not-true, not-false}
 use lib.Dec.{ltb}
 use Rattle.octets.specs.Searches.{firstFit, firstRefused}
-use Rattle.octets.proofs.Searches.{first-to, first-fits, first-none}
+use Rattle.octets.proofs.Searches.{first-to, first-fits, first-none, first-is, first-absent}
 use Rattle.devices.specs.Keys.{below, same}
 use Rattle.devices.proofs.Keys.{below-self, below-trans, below-neither, below-differ, differ, same-self}
-
--- a search's answer, from what the place found has and those before it lack
-pub first-is : (f : ℕ → Bool) (n m : ℕ) → m < n → f m ≡ true → ((k : ℕ) → k < m → f k ≡ false) → firstFit f 0 n ≡ m
-first-is f n m b here before = by-test (ltb (firstFit f 0 n) m) refl (ltb m (firstFit f 0 n)) refl
-  where
-    by-test : (s : Bool) → ltb (firstFit f 0 n) m ≡ s → (t : Bool) → ltb m (firstFit f 0 n) ≡ t → firstFit f 0 n ≡ m
-    by-test true e t g =
-        let l : firstFit f 0 n < m = ltb-true (firstFit f 0 n) m e in
-        absurd (false≢true (sym (before (firstFit f 0 n) l) ∙ first-fits f 0 n (omega arith)))
-    by-test false e true g = absurd (false≢true (sym (first-none f 0 n m (omega arith) (ltb-true m (firstFit f 0 n) g)) ∙ here))
-    by-test false e false g = omega (arith, ltb-false (firstFit f 0 n) m e, ltb-false m (firstFit f 0 n) g)
-
--- where no place fits, it is the end
-pub first-absent : (f : ℕ → Bool) (n : ℕ) → ((k : ℕ) → k < n → f k ≡ false) → firstFit f 0 n ≡ n
-first-absent f n none = by-test (ltb (firstFit f 0 n) n) refl
-  where
-    by-test : (s : Bool) → ltb (firstFit f 0 n) n ≡ s → firstFit f 0 n ≡ n
-    by-test true e =
-        let l : firstFit f 0 n < n = ltb-true (firstFit f 0 n) n e in
-        absurd (false≢true (sym (none (firstFit f 0 n) l) ∙ first-fits f 0 n (omega arith)))
-    by-test false e = omega (arith, ltb-false (firstFit f 0 n) n e, first-to f 0 n)
 
 module _ (K : ℕ → List ℕ) (n : ℕ) (x : List ℕ) where
   -- entry m is the first that does not stand below x
@@ -59,13 +38,13 @@ module _ (K : ℕ → List ℕ) (n : ℕ) (x : List ℕ) where
   module _ (m : ℕ) (s : Sought m) where
     found : m < n → below x (K m) ≡ false → firstFit (λ k. same (K k) x) 0 n ≡ m
     found h b =
-        first-is (λ k. same (K k) x) n m h
+        first-is (λ k. same (K k) x) 0 n m (omega arith) (omega arith)
         (ap (λ (y : List ℕ). same y x) (below-neither (K m) x (s .here h) b) ∙ same-self x)
-        (λ k l. below-differ (K k) x (s .before k l))
+        (λ k l u. below-differ (K k) x (s .before k u))
 
     module _ (up : (i j : ℕ) → i < j → j < n → below (K i) (K j) ≡ true) where
       absent : (m < n → below x (K m) ≡ true) → firstFit (λ k. same (K k) x) 0 n ≡ n
-      absent above = first-absent (λ k. same (K k) x) n (λ k h. by-place k h (ltb k m) refl)
+      absent above = first-absent (λ k. same (K k) x) 0 n (λ k l u. by-place k (omega arith) (ltb k m) refl) ∙ zero-add n
         where
           over : (k : ℕ) → k < n → m ≤ k → below x (K k) ≡ true
           over k h l =

@@ -5,6 +5,7 @@ use mathlib.Core.Bool.{cond}
 use mathlib.Core.List.{List, [], _∷_, _++_}
 use lib.Dec.{leb}
 use lib.ListN.{length}
+use Rattle.octets.specs.Numbers.{bytesOf}
 use Rattle.verdict.specs.declared.Verdict.{Verdict}
 use Rattle.verdict.specs.declared.Part.{Part}
 use Rattle.verdict.specs.Orders.{Test, _or-else_, inOrder, good, isGood, partBy}
@@ -86,5 +87,4 @@ foundPlace a b t x =
 
 -- the seven bytes of a part's key, in the order of a type 7 body: "system type, address, part type, part address 4"
 abbrev pub keyBytes : PartKey → List ℕ
-keyBytes k =
-    k .system ∷ k .address ∷ k .kind ∷ k .first ∷ k .second ∷ k .third ∷ k .fourth ∷ []
+keyBytes k = k .system ∷ k .address ∷ k .part ∷ bytesOf 4 (k .«part_address»)

@@ -42,30 +42,29 @@ pub struct Judgement {
     pub parts: usize,
 }
 
-// The seven bytes by which a part is found: its system's type and address, its own type, and its address of four bytes.
+// What a part is found by: its system's type and address, its own type and address.
 #[repr(C)]
 pub struct PartKey {
     pub system: u8,
     pub address: u8,
-    pub kind: u8,
-    pub first: u8,
-    pub second: u8,
-    pub third: u8,
-    pub fourth: u8,
+    pub part: u8,
+    pub part_address: u32,
 }
 
 impl PartKey {
+    // The seven bytes as they stand in an entry.
     fn bytes(self) -> [u8; 7]
         ensures { λ r. ⌜ r ≡ keyBytes self ⌝ }
     {
+        let at = octets::four_bytes(self.part_address);
         [
             self.system,
             self.address,
-            self.kind,
-            self.first,
-            self.second,
-            self.third,
-            self.fourth,
+            self.part,
+            at[0],
+            at[1],
+            at[2],
+            at[3],
         ]
     }
 }

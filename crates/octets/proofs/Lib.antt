@@ -4,5 +4,6 @@ pub mod Parts
 pub mod Sums
 pub mod Searches
 pub mod Rows
+pub mod Fill
 pub mod Flags
 pub mod Examples

@@ -4,10 +4,10 @@ use Prim.Native.Nat.{ℕ, zero, suc, _+_, _*_, _/_, _%_, _^_, _≤_, _<_}
 use native.Mathlib.Nat.{pow-suc}
 use native.Mathlib.Numerals.{add-one, add-two}
 use native.Mathlib.Omega.{arith}
-use mathlib.Core.Path.{_≡_, refl, sym, ap, _∙_}
+use mathlib.Core.Path.{_≡_, refl, sym, ap, subst, _∙_}
 use mathlib.Core.List.{List, [], _∷_}
 use lib.ListN.{length, getD, take, drop, drop-of-length-le}
-use lib.Seq.{take-nil, drop-cons}
+use lib.Seq.{take-nil, drop-cons, getD-drop}
 use Rattle.octets.specs.Numbers.{Octets, lowFirst, bytesOf}
 
 -- a number of one byte more: the byte at its place and 256 times what follows
@@ -56,6 +56,16 @@ unfolding bytesOf
 octets-bytes zero x i = omega arith
 octets-bytes (suc n) x zero = omega arith
 octets-bytes (suc n) x (suc i) = octets-bytes n (x / 256) i
+
+octets-take : (n : ℕ) (s : List ℕ) → Octets s → Octets (take n s)
+octets-take zero s h i = omega arith
+octets-take (suc n) [] h i = h i
+octets-take (suc n) (b ∷ s) h zero = h zero
+octets-take (suc n) (b ∷ s) h (suc i) = octets-take n s (λ j. h (suc j)) i
+
+-- a part of a row of bytes is one too
+pub octets-part : (s : List ℕ) (at n : ℕ) → Octets s → Octets (take n (drop at s))
+octets-part s at n h = octets-take n (drop at s) (λ i. subst (λ (b : ℕ). b < 256) (sym (getD-drop at s i 0)) (h (at + i)))
 
 -- written and read back: the same number
 pub bytes-low : (n x : ℕ) → x < 256 ^ n → lowFirst (bytesOf n x) ≡ x

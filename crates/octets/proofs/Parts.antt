@@ -4,12 +4,13 @@ use Prim.Native.Nat.{ℕ, zero, suc, _+_, _-_, _≤_, _<_}
 use native.Mathlib.Omega.{arith}
 use mathlib.Core.Bool.{Bool, true, false}
 use mathlib.Core.Path.{_≡_, refl, sym, ap, _∙_}
-use mathlib.Core.List.{List, [], _∷_, _++_, append-assoc}
+use mathlib.Core.List.{List, [], _∷_, _++_, append-assoc, append-nil}
 use borrow.Author.Tests.{le-leb, lt-leb, leb-true, leb-false}
 use lib.Dec.{leb}
-use lib.ListN.{length, getD, take, drop, replicate, List·getD-eq-default, length-append, length-take, length-drop, take-append-drop}
+use lib.ListN.{length, getD, set, take, drop, replicate, List·getD-eq-default, length-append, length-take, length-drop, take-append-drop, drop-of-length-le}
 use native.Mathlib.Nat.{le-of-eq}
-use lib.Seq.{drop-drop, take-all, take-at, drop-at, take-append-seam, drop-cons, getD-take, getD-drop, length-take-le}
+use native.Mathlib.Numerals.{add-one}
+use lib.Seq.{sets, sets-eq, paste, paste-suc, drop-drop, take-all, take-length, take-at, drop-at, take-append-seam, drop-cons, getD-take, getD-drop, length-take-le}
 use Rattle.octets.specs.Parts.{within, part, partPlace, putAt, oneByOne}
 
 -- a part that is there
@@ -151,3 +152,23 @@ put-same o at x fits e =
     ∙ append-assoc (take at o) (take (length x) (drop at o)) (drop (length x) (drop at o))
     ∙ ap (λ (y : List ℕ). take at o ++ y) (take-append-drop (length x) (drop at o))
     ∙ take-append-drop at o
+
+-- single stores from a place on are bytes put there
+pub stores-put : (o : List ℕ) (at : ℕ) (bytes : List ℕ) → at + length bytes ≤ length o → sets o at bytes ≡ putAt o at bytes
+stores-put o at bytes fits = sets-eq bytes o at fits ∙ sym (put-is o at bytes fits)
+
+-- bytes as long as the row are put over all of it
+pub put-whole : (o bytes : List ℕ) → length bytes ≡ length o → putAt o 0 bytes ≡ bytes
+put-whole o bytes e =
+    let past : length o ≤ 0 + length bytes = omega arith in
+    let none : drop (0 + length bytes) o ≡ [] = drop-of-length-le o past in
+    put-is o 0 bytes (omega arith) ∙ ap (λ (l : List ℕ). bytes ++ l) none ∙ append-nil bytes
+
+-- a copy byte by byte: one byte more, and all of them
+pub copy-on : (o : List ℕ) (at : ℕ) (bytes : List ℕ) (i : ℕ) → at + i < length o → i < length bytes
+    → set (paste o at bytes i) (at + i) (getD bytes i 0) ≡ paste o at bytes (i + 1)
+copy-on o at bytes i fits h = paste-suc o at bytes i 0 fits h ∙ ap (paste o at bytes) (sym (add-one i))
+
+pub copy-whole : (o : List ℕ) (at : ℕ) (bytes : List ℕ) (i : ℕ) → i ≡ length bytes → at + length bytes ≤ length o → paste o at bytes i ≡ putAt o at bytes
+copy-whole o at bytes i e fits =
+    ap (paste o at bytes) e ∙ ap (λ (t : List ℕ). take at o ++ t ++ drop (at + length bytes) o) (take-length bytes) ∙ sym (put-is o at bytes fits)

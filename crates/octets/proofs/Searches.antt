@@ -4,11 +4,14 @@ use Prim.Native.Nat.{ℕ, zero, suc, _+_, _-_, _≤_, _<_}
 use native.Mathlib.Nat.{eq-or-lt-of-le}
 use native.Mathlib.Numerals.{add-one}
 use native.Mathlib.Omega.{arith}
-use mathlib.Core.Bool.{Bool, true, false, not, cond, _||_, true≢false, false≢true}
+use mathlib.Core.Bool.{Bool, true, false, not, cond, _&&_, _||_, and-assoc, true≢false, false≢true}
+use mathlib.Core.List.{List, [], _∷_, _++_}
 use mathlib.Core.Logic.{⊎-elim}
-use borrow.Author.Tests.{not-true, not-false}
-use mathlib.Core.Path.{_≡_, refl, subst}
-use Rattle.octets.specs.Searches.{firstFit, anyFits, allFit}
+use borrow.Author.Tests.{not-true, not-false, ltb-true, ltb-false}
+use mathlib.Core.Path.{_≡_, refl, sym, ap, subst, _∙_}
+use lib.Dec.{ltb}
+use Rattle.octets.specs.Searches.{firstFit, anyFits, allFit, every}
+use Rattle.octets.proofs.Flags.{by-test}
 
 left : (i n : ℕ) → i < n → n - i ≡ suc (n - (i + 1))
 left i n h = omega arith
@@ -69,11 +72,26 @@ module _ (f : ℕ → Bool) where
       by-test false e h ih =
           ⊎-elim (λ (q : i ≡ k). subst (λ (m : ℕ). f m ≡ false) q e) (λ (q : i < k). ih q h) (eq-or-lt-of-le l)
 
-  -- where no place fits, the end is found
-  pub first-all : (i n : ℕ) → ((k : ℕ) → f k ≡ false) → firstFit f i n ≡ i + n
+  -- where no place of the run fits, the end is found
+  pub first-absent : (i n : ℕ) → ((k : ℕ) → i ≤ k → k < i + n → f k ≡ false) → firstFit f i n ≡ i + n
   unfolding firstFit
-  first-all i zero h = omega arith
-  first-all i (suc n) h = simp (h i) (omega (arith, first-all (suc i) n h))
+  first-absent i zero h = omega arith
+  first-absent i (suc n) h =
+      simp (h i (omega arith) (omega arith)) (omega (arith, first-absent (suc i) n (λ k l u. h k (omega arith) (omega arith))))
+
+  pub first-all : (i n : ℕ) → ((k : ℕ) → f k ≡ false) → firstFit f i n ≡ i + n
+  first-all i n h = first-absent i n (λ k l u. h k)
+
+  -- the place found, from what it has and those before it lack
+  pub first-is : (i n m : ℕ) → i ≤ m → m < i + n → f m ≡ true → ((k : ℕ) → i ≤ k → k < m → f k ≡ false) → firstFit f i n ≡ m
+  first-is i n m l b here before =
+      by-test (ltb (firstFit f i n) m)
+      (λ t.
+      let low = ltb-true (firstFit f i n) m t in
+      absurd (false≢true (sym (before (firstFit f i n) (first-from i n) low) ∙ first-fits i n (omega (arith, low, b)))))
+      (λ e. by-test (ltb m (firstFit f i n))
+      (λ t. absurd (false≢true (sym (first-none i n m l (ltb-true m (firstFit f i n) t)) ∙ here)))
+      (λ g. omega (arith, ltb-false (firstFit f i n) m e, ltb-false m (firstFit f i n) g)))
 
   -- the three turns again, for whether any fits
   pub any-end : (i n : ℕ) → n ≤ i → anyFits f i (n - i) ≡ false
@@ -108,6 +126,28 @@ module _ (f : ℕ → Bool) where
       by-test : (t : Bool) → t || anyFits f (suc i) n ≡ true → (anyFits f (suc i) n ≡ true → firstFit f (suc i) n < suc i + n) → cond t i (firstFit f (suc i) n) < i + suc n
       by-test true a ih = omega arith
       by-test false a ih = let h : firstFit f (suc i) n < suc i + n = ih a in omega arith
+
+  -- where each place of a run refuses, none fits
+  pub none-fits : (i n : ℕ) → ((k : ℕ) → i ≤ k → k < i + n → f k ≡ false) → anyFits f i n ≡ false
+  unfolding anyFits
+  none-fits i zero h = refl
+  none-fits i (suc n) h =
+      simp (h i (omega arith) (omega arith)) (none-fits (suc i) n (λ k l u. h k (omega arith) (omega arith)))
+
+-- two searches find something where what one finds the other finds too
+module _ (f g : ℕ → Bool) (i n j m : ℕ) where
+  pub found-there : ((k : ℕ) → i ≤ k → k < i + n → f k ≡ true → (j ≤ k) × (k < j + m) × (g k ≡ true)) → anyFits f i n ≡ true → anyFits g j m ≡ true
+  found-there to e =
+      let k = firstFit f i n in
+      let h = any-first f i n e in
+      let there = to k (first-from f i n) h (first-fits f i n h) in
+      by-test (anyFits g j m) (λ t. t) (λ none. absurd (false≢true (sym (any-none g j m k none (there .0) (there .1)) ∙ there .2)))
+
+-- one list after another
+pub every-append : {A : Type 0} (f : A → Bool) (s t : List A) → every f (s ++ t) ≡ (every f s && every f t)
+unfolding every
+every-append f [] t = refl
+every-append f (x ∷ s) t = ap (λ (b : Bool). f x && b) (every-append f s t) ∙ sym (and-assoc (f x) (every f s) (every f t))
 
 -- a rule that a computed test shows at every place of a table
 pub all-fit : (f : ℕ → Bool) (n k : ℕ) → allFit f 0 n ≡ true → k < n → f k ≡ true

@@ -1,7 +1,9 @@
 -- The searches that the documents' sentences speak of: "the first bad object", "the lowest free place", "no such part".
--- Each is over a test and a run of n places from i on. Assumes nothing.
+-- Each is over a test and a run of n places from i on, the last over a list. Assumes nothing.
 use Prim.Native.Nat.{ℕ, zero, suc}
-use mathlib.Core.Bool.{Bool, false, not, cond, _||_}
+use mathlib.Core.Bool.{Bool, true, false, not, cond, _&&_, _||_}
+use mathlib.Core.List.{List, [], _∷_}
+use lib.Dec.{eqb}
 
 -- the first place that fits, the end of the run where none does
 unfoldable pub firstFit : (ℕ → Bool) → ℕ → ℕ → ℕ
@@ -20,3 +22,12 @@ anyFits f i (suc n) = f i || anyFits f (suc i) n
 -- whether all do
 abbrev pub allFit : (ℕ → Bool) → ℕ → ℕ → Bool
 allFit f i n = not (anyFits (λ k. not (f k)) i n)
+
+-- whether every element of a list passes a test
+unfoldable pub every : {A : Type 0} → (A → Bool) → List A → Bool
+every f [] = true
+every f (x ∷ xs) = f x && every f xs
+
+-- "reads zero"
+abbrev pub allZero : List ℕ → Bool
+allZero = every (λ b. eqb b 0)

@@ -11,31 +11,13 @@ use lib.Dec.{eqb, leb, ltb}
 use lib.ListN.{length, getD, set, replicate, getD-replicate, List·getD-eq-default}
 use lib.Seq.{getD-set-same, getD-set-other}
 use Rattle.octets.specs.Searches.{firstFit, anyFits}
-use Rattle.octets.proofs.Searches.{first-from, first-fits, any-none, any-first}
+use Rattle.octets.proofs.Searches.{any-none, none-fits, found-there}
+use Rattle.octets.proofs.Flags.{by-test, both-or-none}
 use Rattle.place.specs.declared.Place.{Place}
 use Rattle.place.specs.Rules.{free, isOpen, holds}
 use Rattle.place.proofs.Kept.{holds-is, open-holds, free-holds}
 use Rattle.places.specs.Rows.{placeAt, holdsAt, isOpenAs, doubleAt, twice, upward, serialFor}
-use Rattle.places.proofs.Rules.{none-fits}
 use Rattle.places.specs.Held.{NONE, heldBy, Held, standsAt, standsIn}
-
-pub by-test : {A : Type 0} (b : Bool) → (b ≡ true → A) → (b ≡ false → A) → A
-by-test true t f = t refl
-by-test false t f = f refl
-
--- two searches find something where what one finds the other finds too
-module _ (f g : ℕ → Bool) (i n j m : ℕ) where
-  pub found-there : ((k : ℕ) → i ≤ k → k < i + n → f k ≡ true → (j ≤ k) × (k < j + m) × (g k ≡ true)) → anyFits f i n ≡ true → anyFits g j m ≡ true
-  found-there to e =
-      let k = firstFit f i n in
-      let h = any-first f i n e in
-      let there = to k (first-from f i n) h (first-fits f i n h) in
-      by-test (anyFits g j m) (λ t. t) (λ none. absurd (false≢true (sym (any-none g j m k none (there .0) (there .1)) ∙ there .2)))
-
-both-or-none : (a b : Bool) → (a ≡ true → b ≡ true) → (b ≡ true → a ≡ true) → a ≡ b
-both-or-none true b to back = sym (to refl)
-both-or-none false true to back = back refl
-both-or-none false false to back = refl
 
 module _ (ps : List Place) (to : ℕ) where
   within : (i k : ℕ) → i ≤ k → k < to → leb i k && ltb k to ≡ true

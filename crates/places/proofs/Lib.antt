@@ -1,4 +1,3 @@
-pub mod Fill
 pub mod Counting
 pub mod Serials
 pub mod Rules

@@ -1,8 +1,8 @@
 -- The rules of a row of places as facts about each place, and what keeps them: fewer serials open, and one that was not open opened.
 -- Assumes nothing.
-use Prim.Native.Nat.{ℕ, zero, suc, _+_, _-_, _≤_, _<_}
+use Prim.Native.Nat.{ℕ, _+_, _-_, _≤_, _<_}
 use native.Mathlib.Omega.{arith}
-use mathlib.Core.Bool.{Bool, true, false, not, _&&_, _||_, true≢false}
+use mathlib.Core.Bool.{Bool, true, false, not, _&&_, true≢false}
 use mathlib.Core.List.{List}
 use mathlib.Core.Logic.{_⊎_, inl, inr}
 use mathlib.Core.Path.{_≡_, refl, sym, ap, subst, subst⁻¹, _∙_}
@@ -11,21 +11,11 @@ use lib.Dec.{eqb}
 use lib.ListN.{length, set}
 use lib.Seq.{getD-set-same, getD-set-other}
 use Rattle.octets.specs.Searches.{anyFits}
-use Rattle.octets.proofs.Searches.{any-none}
+use Rattle.octets.proofs.Searches.{any-none, none-fits}
 use Rattle.place.specs.declared.Place.{Place}
 use Rattle.place.specs.Rules.{opened, free, isOpen, holds}
 use Rattle.place.proofs.Kept.{holds-is, open-holds}
 use Rattle.places.specs.Rows.{placeAt, holdsAt, keepsAt, isOpenAs, doubleAt, twice, allKeep}
-
--- where each place of a run refuses, none fits
-pub none-fits : (f : ℕ → Bool) (i n : ℕ) → ((k : ℕ) → i ≤ k → k < i + n → f k ≡ false) → anyFits f i n ≡ false
-unfolding anyFits
-none-fits f i zero h = refl
-none-fits f i (suc n) h = by-test (f i) (h i (omega arith) (omega arith)) (none-fits f (suc i) n (λ k l u. h k (omega arith) (omega arith)))
-  where
-    by-test : (t : Bool) → t ≡ false → anyFits f (suc i) n ≡ false → t || anyFits f (suc i) n ≡ false
-    by-test true e ih = absurd (true≢false e)
-    by-test false e ih = ih
 
 -- every place keeps the rules for a place
 module _ (t r : ℕ) (ps : List Place) (from to : ℕ) where

@@ -8,7 +8,7 @@ use mathlib.Core.List.{List, [], _∷_, _++_}
 use mathlib.Core.Path.{_≡_, sym, ap, subst, _∙_}
 use lib.ListN.{length, drop}
 use Rattle.reading.specs.Values.{asks, packetOf}
-use Rattle.reading.specs.Standing.{room}
+use Rattle.frame.specs.Frame.{room}
 use Rattle.reading.specs.Finding.{Heard, reading}
 use Rattle.reading.specs.Calls.{State, fresh, called}
 use Rattle.reading.specs.Offers.{heardIn, Offered, Streamed, joined, stateOf, countedAll}

@@ -11,11 +11,13 @@ use lib.ListN.{length, getD, drop, length-drop, drop-of-length-le}
 use Rattle.reading.specs.declared.Standing.{Standing}
 use Rattle.reading.specs.declared.Standing.the-variants.{Wait, Skip, Hit}
 use Rattle.reading.specs.declared.Step.{Step}
-use Rattle.reading.specs.Standing.{whenThere, unitLength, ended, summed, judgedFrame, started, stands}
+use Rattle.frame.specs.Frame.{unitLength, ended, summed}
+use Rattle.reading.specs.Standing.{whenThere, judgedFrame, started, stands}
 use Rattle.reading.specs.Finding.{noiseAt, onward, noise, found, first}
 use Rattle.reading.proofs.Stands.{nothing-waits, not-there}
-use Rattle.receiver.specs.Runs.{startsOther, noiseRun, crossing, ahead, settled}
-use Rattle.receiver.proofs.Runs.{noise-long}
+use Rattle.rows.specs.Runs.{startsOther, noiseRun}
+use Rattle.rows.proofs.Noises.{noise-long}
+use Rattle.receiver.specs.Runs.{crossing, ahead, settled}
 
 pub ahead-zero : (f : Step) → ahead 0 f ≡ f
 unfolding ahead

@@ -1,6 +1,5 @@
 pub mod Spans
-pub mod Runs
-pub mod Moves
+pub mod Shifts
 pub mod Aheads
 pub mod Finds
 pub mod Settles

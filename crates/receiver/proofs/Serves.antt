@@ -10,9 +10,10 @@ use lib.Seq.{length-take-le}
 use Rattle.reading.specs.declared.Step.{Step}
 use Rattle.reading.specs.declared.Told.{Told}
 use Rattle.reading.specs.Values.{told, packetOf}
-use Rattle.reading.specs.Standing.{room}
+use Rattle.frame.specs.Frame.{room}
 use Rattle.reading.specs.Finding.{first}
-use Rattle.reading.specs.Calls.{Answer, padTo, allZero, sound, restOf, copied, answerBy, called}
+use Rattle.octets.specs.Searches.{allZero}
+use Rattle.reading.specs.Calls.{Answer, padTo, sound, restOf, copied, answerBy, called}
 use Rattle.reading.proofs.Worths.{worth, packet-small}
 use Rattle.reading.proofs.Pads.{pad-is}
 use Rattle.reading.proofs.Found.{Asked, Gave, either}
@@ -26,19 +27,26 @@ pub received : (s : Served) (row : List ℕ) (a : Answer) → s ≡ servedOf a �
 received s row a e h =
     λ i. record { event = e i .event; skipped = e i .skipped; taken = e i .taken; state = record { hold = h i; held = e i .held; skipped = e i .count } }
 
-module _ (M : ℕ) (hold : List ℕ) (held skipped : ℕ) (piece out : List ℕ) (long : length hold ≡ room M) (s : sound M (lent hold held skipped) ≡ true) (r : room M ≤ length out) (f : Step) (found : f ≡ first M skipped (take (held - 0) hold ++ piece)) where
+-- a call that is not refused, and what was found first in the held bytes and the piece
+pub record Serving (M : ℕ) (hold : List ℕ) (held skipped : ℕ) (piece out : List ℕ) (f : Step) : Type 0 where
+  pub long : length hold ≡ room M
+  pub keeps : sound M (lent hold held skipped) ≡ true
+  pub roomy : room M ≤ length out
+  pub found : f ≡ first M skipped (take (held - 0) hold ++ piece)
+
+module _ (M : ℕ) (hold : List ℕ) (held skipped : ℕ) (piece out : List ℕ) (f : Step) (v : Serving M hold held skipped piece out f) where
   -- held bytes as the code lends them
   part : held - 0 ≡ held
   part = omega arith
 
-  rules : (held ≤ room M) × (skipped ≤ 65534) × (allZero (drop held hold) ≡ true)
-  rules = rules-are M (lent hold held skipped) s
+  pub rules : (held ≤ room M) × (skipped ≤ 65534) × (allZero (drop held hold) ≡ true)
+  rules = rules-are M (lent hold held skipped) (v .keeps)
 
   front-long : length (take held hold) ≡ held
-  front-long = length-take-le held hold (omega (arith, rules .0))
+  front-long = length-take-le held hold (omega (arith, rules .0, v .long))
 
   finds : f ≡ first M skipped (take held hold ++ piece)
-  finds = found ∙ ap (λ (n : ℕ). first M skipped (take n hold ++ piece)) part
+  finds = v .found ∙ ap (λ (n : ℕ). first M skipped (take n hold ++ piece)) part
 
   which : Asked M skipped (take held hold ++ piece) f ⊎ Gave M skipped (take held hold ++ piece) f
   which =
@@ -46,7 +54,7 @@ module _ (M : ℕ) (hold : List ℕ) (held skipped : ℕ) (piece out : List ℕ)
       (either M skipped (take held hold ++ piece) (omega (arith, rules .1)))
 
   pub hold-is : hold ≡ padTo (length hold) (take held hold)
-  hold-is = pad-is (room M) held hold long (rules .0) (rules .2) ∙ ap (λ (n : ℕ). padTo n (take held hold)) (sym long)
+  hold-is = pad-is (room M) held hold (v .long) (rules .0) (rules .2) ∙ ap (λ (n : ℕ). padTo n (take held hold)) (sym (v .long))
 
   -- the packet fits the buffer
   pub packet-fits : (t : Told) → t ≡ told (f .event) → length (take (t .length) (drop (f .at) (take (held - 0) hold ++ piece))) ≤ length out
@@ -58,7 +66,7 @@ module _ (M : ℕ) (hold : List ℕ) (held skipped : ℕ) (piece out : List ℕ)
       (λ (q : Asked M skipped (take held hold ++ piece) f). subst (λ w. worth w ≤ room M) (sym (q .event)) (omega arith))
       (λ (q : Gave M skipped (take held hold ++ piece) f). q .small)
       which in
-      omega (arith, ap (λ (u : Told). length (take (u .length) xs)) e, packet-small (f .event) xs, small)
+      omega (arith, ap (λ (u : Told). length (take (u .length) xs)) e, packet-small (f .event) xs, small, v .roomy)
 
   -- as many bytes as are taken are there
   pub taken-there : f .looked - held ≤ length piece
@@ -78,7 +86,7 @@ module _ (M : ℕ) (hold : List ℕ) (held skipped : ℕ) (piece out : List ℕ)
     pub left-fits : length (drop (f .next) (take held hold ++ take (n - 0) piece)) ≤ length hold
     left-fits =
         omega
-        (arith, ap length rest-is, rest-fits M skipped (take held hold) piece f (omega (arith, front-long, rules .0)) which)
+        (arith, ap length rest-is, rest-fits M skipped (take held hold) piece f (omega (arith, front-long, rules .0)) which, v .long)
 
     -- the whole answer
     pub answer : (t : Told) (k : ℕ) (row buffer : List ℕ) → t ≡ told (f .event) → k ≡ length (drop (f .next) (take held hold ++ take (n - 0) piece))
@@ -90,12 +98,12 @@ module _ (M : ℕ) (hold : List ℕ) (held skipped : ℕ) (piece out : List ℕ)
     answer t k row buffer te ke re be =
         let h = take held hold in
         let is : called M (lent hold held skipped) piece out ≡ answerBy M f h piece out =
-        call-good M (lent hold held skipped) piece out s r ∙ ap (λ (g : Step). answerBy M g h piece out) (sym finds) in
+        call-good M (lent hold held skipped) piece out (v .keeps) (v .roomy) ∙ ap (λ (g : Step). answerBy M g h piece out) (sym finds) in
         let taken : n ≡ f .looked - length h = omega (arith, front-long) in
         let left : k ≡ length (restOf f h piece) = ke ∙ ap length rest-is in (
           (λ i. record { event = f .event; skipped = f .carried; taken = taken i; held = left i; count = f .count }) ∙ ap servedOf (sym is),
           (
-            re ∙ ap (λ (m : ℕ). padTo m (drop (f .next) (h ++ take (n - 0) piece))) long ∙ ap (padTo (room M)) rest-is ∙ ap (λ (a : Answer). a .state .hold) (sym is),
+            re ∙ ap (λ (m : ℕ). padTo m (drop (f .next) (h ++ take (n - 0) piece))) (v .long) ∙ ap (padTo (room M)) rest-is ∙ ap (λ (a : Answer). a .state .hold) (sym is),
             be
                 ∙ ap (λ (u : Told). copied (take (u .length) (drop (f .at) (take (held - 0) hold ++ piece))) out) te
                 ∙ ap (λ (m : ℕ). copied (take (told (f .event) .length) (drop (f .at) (take m hold ++ piece))) out) part

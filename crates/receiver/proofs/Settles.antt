@@ -1,24 +1,17 @@
 -- The hold after a call: bytes moved to its front, bytes put behind them, and zeros behind those; and a packet put to the front of a buffer
 -- in one part or two. Assumes nothing.
-use Prim.Native.Nat.{ℕ, zero, suc, _+_, _-_, _≤_}
+use Prim.Native.Nat.{ℕ, zero, suc, _+_, _-_, _≤_, _<_}
 use native.Mathlib.Nat.{zero-sub, suc-sub-suc, sub-zero}
 use native.Mathlib.Omega.{arith}
-use mathlib.Core.List.{List, [], _∷_, _++_}
+use mathlib.Core.List.{List, _++_}
 use mathlib.Core.Path.{_≡_, refl, sym, ap, _∙_}
 use lib.ListN.{length, take, drop, replicate, length-append, length-drop, replicate-append-replicate, drop-of-length-le}
-use lib.Seq.{take-nil, drop-drop, drop-append-add, take-at, take-all, length-take-le}
+use lib.Seq.{drop-drop, drop-append-add, drop-append-seam, take-append-seam, take-at, take-all, length-take-le}
 use Rattle.octets.specs.Parts.{putAt}
 use Rattle.octets.proofs.Parts.{put-is}
+use Rattle.octets.proofs.Rows.{drop-over, drop-take}
 use Rattle.reading.specs.Calls.{padTo, copied}
-use Rattle.receiver.proofs.Spans.{drop-over}
-use Rattle.receiver.proofs.Moves.{moved, wiped}
-
--- a part of a beginning is a beginning of the part
-pub drop-take : (k n : ℕ) (l : List ℕ) → drop k (take n l) ≡ take (n - k) (drop k l)
-drop-take zero n l = ap (λ (m : ℕ). take m l) (sym (sub-zero n))
-drop-take (suc k) zero l = ap (λ (m : ℕ). take m (drop (suc k) l)) (sym (zero-sub (suc k)))
-drop-take (suc k) (suc n) [] = sym (take-nil (suc n - suc k))
-drop-take (suc k) (suc n) (x ∷ l) = drop-take k n l ∙ ap (λ (m : ℕ). take m (drop k l)) (sym (suc-sub-suc n k))
+use Rattle.receiver.specs.Shifts.{shifted}
 
 drop-zeros : (k n : ℕ) → drop {A = ℕ} k (replicate n 0) ≡ replicate (n - k) 0
 drop-zeros zero n = ap (λ (m : ℕ). replicate m 0) (sym (sub-zero n))
@@ -50,80 +43,121 @@ pub packet-back : (n at : ℕ) (a b : List ℕ) → length a ≤ at → take n (
 packet-back n at a b h =
     ap (take n) (sym (drop-over at a b ∙ ap (λ (l : List ℕ). l ++ drop (at - length a) b) (drop-of-length-le a h)))
 
-module _ (row : List ℕ) (held next : ℕ) (taken : List ℕ) (few : held ≤ length row) (pad : row ≡ padTo (length row) (take held row)) (fits : length (drop next (take held row ++ taken)) ≤ length row) where
-  abbrev pub rest : List ℕ
+-- a hold whose held bytes were moved to its front from the next position on, and behind them put what follows it of the bytes taken
+pub record Settling (row : List ℕ) (held next : ℕ) (taken : List ℕ) (keep : ℕ) (tail now : List ℕ) : Type 0 where
+  pub few : held ≤ length row
+  pub pad : row ≡ padTo (length row) (take held row)
+  pub fits : length (drop next (take held row ++ taken)) ≤ length row
+  pub keeps : keep ≡ held - next
+  pub from : ℕ
+  pub later : from ≡ next - held
+  pub gives : tail ≡ take (length taken) (drop from taken)
+  pub front : List ℕ
+  pub moves : front ≡ shifted row next keep
+  pub puts : now ≡ putAt front keep tail
+
+module _ (row : List ℕ) (held next : ℕ) (taken : List ℕ) (keep : ℕ) (tail o : List ℕ) (s : Settling row held next taken keep tail o) where
+  abbrev rest : List ℕ
   rest = drop next (take held row ++ taken)
 
-  front-long : length (take held row) ≡ held
-  front-long = length-take-le held row few
+  -- what is left of the held bytes
+  abbrev kept : List ℕ
+  kept = drop next (take held row)
 
-  -- what is kept of the row, and of what was taken
-  rest-is : rest ≡ take (held - next) (drop next row) ++ drop (next - held) taken
-  rest-is =
-      drop-over next (take held row) taken
-      ∙ ap (λ (l : List ℕ). l ++ drop (next - length (take held row)) taken) (drop-take next held row)
-      ∙ ap (λ (n : ℕ). take (held - next) (drop next row) ++ drop (next - n) taken) front-long
+  held-long : length (take held row) ≡ held
+  held-long = length-take-le held row (s .few)
 
-  kept-long : length (take (held - next) (drop next row)) ≡ held - next
-  kept-long = length-take-le (held - next) (drop next row) (omega (arith, length-drop next row))
+  kept-long : length kept ≡ held - next
+  kept-long = length-drop next (take held row) ∙ ap (λ (n : ℕ). n - next) held-long
 
-  module _ (keep : ℕ) (tail : List ℕ) (k : keep ≡ held - next) (t : tail ≡ take (length taken) (drop (next - held) taken)) where
-    tail-is : tail ≡ drop (next - held) taken
-    tail-is = t ∙ take-all (length taken) (drop (next - held) taken) (omega (arith, length-drop (next - held) taken))
+  rest-is : rest ≡ kept ++ drop (next - held) taken
+  rest-is = drop-over next (take held row) taken ∙ ap (λ (n : ℕ). kept ++ drop (next - n) taken) held-long
 
-    pub new-is : keep + length tail ≡ length rest
-    new-is =
-        sym
-        (ap length rest-is
-        ∙ length-append (take (held - next) (drop next row)) (drop (next - held) taken)
-        ∙ omega (arith, kept-long, k, ap length tail-is))
+  tail-is : tail ≡ drop (next - held) taken
+  tail-is =
+      s .gives
+      ∙ ap (λ (n : ℕ). take (length taken) (drop n taken)) (s .later)
+      ∙ take-all (length taken) (drop (next - held) taken) (omega (arith, length-drop (next - held) taken))
 
-    -- moved and put
-    pub put-rest : putAt (moved row next keep) keep tail ≡ rest ++ drop (length rest) row
-    put-rest =
-        let front = take keep (drop next row) in
-        let size : length front ≡ keep = ap (λ (n : ℕ). length (take n (drop next row))) k ∙ kept-long ∙ sym k in
-        let long : length (moved row next keep) ≡ length row =
-        length-append front (drop keep row) ∙ omega (arith, size, length-drop keep row, k) in
-        let behind : drop (keep + length tail) (moved row next keep) ≡ drop (length rest) row =
-        ap (λ (n : ℕ). drop (n + length tail) (moved row next keep)) (sym size)
-        ∙ drop-append-add front (drop keep row) (length tail)
-        ∙ drop-drop (length tail) keep row
-        ∙ ap (λ (n : ℕ). drop n row) new-is in
-        put-is (moved row next keep) keep tail (omega (arith, long, new-is))
-        ∙ ap (λ (l : List ℕ). l ++ tail ++ drop (keep + length tail) (moved row next keep)) (take-at front (drop keep row) keep size)
-        ∙ ap (λ (l : List ℕ). front ++ tail ++ l) behind
-        ∙ ap (λ (l : List ℕ). l ++ drop (length rest) row)
-        (ap (λ (l : List ℕ). front ++ l) tail-is ∙ ap (λ (n : ℕ). take n (drop next row) ++ drop (next - held) taken) k ∙ sym rest-is)
+  pub new-is : keep + length tail ≡ length rest
+  new-is =
+      sym (ap length rest-is ∙ length-append kept (drop (next - held) taken) ∙ omega (arith, kept-long, s .keeps, ap length tail-is))
+
+  -- the row with its held bytes moved
+  abbrev home : List ℕ
+  home = kept ++ drop (held - next) row
+
+  home-long : length home ≡ length row
+  home-long = length-append kept (drop (held - next) row) ∙ omega (arith, kept-long, length-drop (held - next) row, s .few)
+
+  home-is : s .front ≡ home
+  home-is =
+      s .moves
+      ∙ ap (shifted row next) (s .keeps)
+      ∙ ap (λ (l : List ℕ). l ++ drop (held - next) row) (sym (drop-take next held row))
+
+  put-rest : o ≡ rest ++ drop (length rest) row
+  put-rest =
+      let size : length kept ≡ keep = kept-long ∙ sym (s .keeps) in
+      let behind : drop (keep + length tail) home ≡ drop (length rest) row =
+      ap (λ (n : ℕ). drop (n + length tail) home) (sym size)
+      ∙ drop-append-add kept (drop (held - next) row) (length tail)
+      ∙ drop-drop (length tail) (held - next) row
+      ∙ ap (λ (n : ℕ). drop (n + length tail) row) (sym (s .keeps))
+      ∙ ap (λ (n : ℕ). drop n row) new-is in
+      s .puts
+      ∙ ap (λ (l : List ℕ). putAt l keep tail) home-is
+      ∙ put-is home keep tail (omega (arith, home-long, new-is, s .fits))
+      ∙ ap (λ (l : List ℕ). l ++ tail ++ drop (keep + length tail) home) (take-at kept (drop (held - next) row) keep size)
+      ∙ ap (λ (l : List ℕ). kept ++ tail ++ l) behind
+      ∙ ap (λ (l : List ℕ). l ++ drop (length rest) row) (ap (λ (l : List ℕ). kept ++ l) tail-is ∙ sym rest-is)
+
+  pub settled-size : length o ≡ length row
+  settled-size = ap length put-rest ∙ length-append rest (drop (length rest) row) ∙ omega (arith, length-drop (length rest) row, s .fits)
 
   -- behind the held bytes the row is zero
-  zero-behind : (k : ℕ) → held ≤ k → drop k row ≡ replicate (length row - k) 0
+  zero-behind : (n : ℕ) → held ≤ n → drop n row ≡ replicate (length row - n) 0
   unfolding padTo
-  zero-behind k h =
-      let past : length (take held row) ≤ k = omega (arith, front-long) in
-      let left : length row - length (take held row) - (k - length (take held row)) ≡ length row - k = omega (arith, front-long) in
-      ap (drop k) pad
-      ∙ drop-over k (take held row) (replicate (length row - length (take held row)) 0)
-      ∙ ap (λ (l : List ℕ). l ++ drop (k - length (take held row)) (replicate (length row - length (take held row)) 0)) (drop-of-length-le (take held row) past)
-      ∙ drop-zeros (k - length (take held row)) (length row - length (take held row))
-      ∙ ap (λ (n : ℕ). replicate n 0) left
+  zero-behind n h =
+      let past : length (take held row) ≤ n = omega (arith, held-long) in
+      let left : length row - length (take held row) - (n - length (take held row)) ≡ length row - n = omega (arith, held-long) in
+      ap (drop n) (s .pad)
+      ∙ drop-over n (take held row) (replicate (length row - length (take held row)) 0)
+      ∙ ap (λ (l : List ℕ). l ++ drop (n - length (take held row)) (replicate (length row - length (take held row)) 0)) (drop-of-length-le (take held row) past)
+      ∙ drop-zeros (n - length (take held row)) (length row - length (take held row))
+      ∙ ap (λ (m : ℕ). replicate m 0) left
 
-  pub settled-long : held ≤ length rest → rest ++ drop (length rest) row ≡ padTo (length row) rest
+  -- where no fewer bytes are held than before
+  pub settled-long : held ≤ keep + length tail → o ≡ padTo (length row) rest
   unfolding padTo
-  settled-long h = ap (λ (l : List ℕ). rest ++ l) (zero-behind (length rest) h)
+  settled-long h = put-rest ∙ ap (λ (l : List ℕ). rest ++ l) (zero-behind (length rest) (omega (arith, new-is, h)))
 
-  pub settled-short : length rest ≤ held → wiped (rest ++ drop (length rest) row) (length rest) held ≡ padTo (length row) rest
-  unfolding padTo
-  settled-short h =
-      let whole = rest ++ drop (length rest) row in
-      let place : length rest + (held - length rest) ≡ held = omega arith in
-      let behind : drop held whole ≡ replicate (length row - held) 0 =
-      ap (λ (n : ℕ). drop n whole) (sym place)
-      ∙ drop-append-add rest (drop (length rest) row) (held - length rest)
-      ∙ drop-drop (held - length rest) (length rest) row
-      ∙ ap (λ (n : ℕ). drop n row) place
-      ∙ zero-behind held (omega arith) in
-      let all : held - length rest + (length row - held) ≡ length row - length rest = omega arith in
-      ap (λ (l : List ℕ). l ++ (replicate (held - length rest) 0 ++ drop held whole)) (take-at rest (drop (length rest) row) (length rest) refl)
-      ∙ ap (λ (l : List ℕ). rest ++ (replicate (held - length rest) 0 ++ l)) behind
-      ∙ ap (λ (l : List ℕ). rest ++ l) (replicate-append-replicate (held - length rest) (length row - held) 0 ∙ ap (λ (n : ℕ). replicate n 0) all)
+  -- where fewer are, and the room up to where they ended is wiped
+  module _ (n : ℕ) (new : n ≡ keep + length tail) (w : List ℕ) (fewer : n < held) (wipes : w ≡ replicate (length (take (held - n) (drop n o))) 0) where
+    at-end : n ≡ length rest
+    at-end = new ∙ new-is
+
+    behind : drop n o ≡ drop n row
+    behind = ap (λ (m : ℕ). drop m o) at-end ∙ ap (drop (length rest)) put-rest ∙ drop-append-seam rest (drop (length rest) row) ∙ ap (λ (m : ℕ). drop m row) (sym at-end)
+
+    zeros : w ≡ replicate (held - n) 0
+    zeros =
+        wipes
+        ∙ ap (λ (m : ℕ). replicate m 0) (length-take-le (held - n) (drop n o) (omega (arith, length-drop n o, settled-size, s .few)))
+
+    after : drop (held - n) (drop n o) ≡ replicate (length row - held) 0
+    after =
+        let place : n + (held - n) ≡ held = omega (arith, fewer) in
+        ap (drop (held - n)) behind ∙ drop-drop (held - n) n row ∙ ap (λ (m : ℕ). drop m row) place ∙ zero-behind held (omega arith)
+
+    front-is : take n o ≡ rest
+    front-is = ap (λ (m : ℕ). take m o) at-end ∙ ap (take (length rest)) put-rest ∙ take-append-seam rest (drop (length rest) row)
+
+    pub settled-short : take n o ++ (w ++ drop (held - n) (drop n o)) ≡ padTo (length row) rest
+    unfolding padTo
+    settled-short =
+        let all : held - n + (length row - held) ≡ length row - length rest = omega (arith, fewer, at-end, s .few) in
+        ap (λ (l : List ℕ). l ++ (w ++ drop (held - n) (drop n o))) front-is
+        ∙ ap (λ (l : List ℕ). rest ++ (l ++ drop (held - n) (drop n o))) zeros
+        ∙ ap (λ (l : List ℕ). rest ++ (replicate (held - n) 0 ++ l)) after
+        ∙ ap (λ (l : List ℕ). rest ++ l) (replicate-append-replicate (held - n) (length row - held) 0 ∙ ap (λ (m : ℕ). replicate m 0) all)

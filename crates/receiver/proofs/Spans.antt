@@ -1,9 +1,8 @@
 -- Two rows read as one: what stands before a place and behind it, and the tests that tell. Assumes nothing.
-use Prim.Native.Nat.{ℕ, zero, suc, _+_, _*_, _-_, _%_, _≤_, _<_}
-use native.Mathlib.Nat.{zero-sub, suc-sub-suc, sub-zero}
+use Prim.Native.Nat.{ℕ, _+_, _*_, _-_, _%_, _≤_, _<_}
 use native.Mathlib.Omega.{arith}
 use mathlib.Core.Bool.{true, false}
-use mathlib.Core.List.{List, [], _∷_, _++_}
+use mathlib.Core.List.{List, _++_}
 use mathlib.Core.Path.{_≡_, sym, ap, _∙_}
 use borrow.Author.Tests.{le-leb, lt-leb, eq-eqb, ne-eqb}
 use lib.Dec.{leb, eqb}
@@ -11,18 +10,9 @@ use lib.ListN.{length, getD, take, drop, length-append, length-take, length-drop
 use lib.Seq.{getD-append-add, take-all, take-append-le, drop-append-le}
 use Rattle.octets.specs.Sums.{total}
 use Rattle.octets.proofs.Numbers.{low-two}
+use Rattle.octets.proofs.Rows.{drop-over, take-over}
 use Rattle.octets.proofs.Sums.{total-append}
-use Rattle.reading.specs.Standing.{unitLength}
-
-pub drop-over : (k : ℕ) (a b : List ℕ) → drop k (a ++ b) ≡ drop k a ++ drop (k - length a) b
-drop-over zero a b = simp (zero-sub (length a))
-drop-over (suc k) [] b = simp (sub-zero (suc k))
-drop-over (suc k) (x ∷ a) b = simp (suc-sub-suc k (length a)) (drop-over k a b)
-
-pub take-over : (n : ℕ) (a b : List ℕ) → take n (a ++ b) ≡ take n a ++ take (n - length a) b
-take-over zero a b = simp (zero-sub (length a))
-take-over (suc n) [] b = simp (sub-zero (suc n))
-take-over (suc n) (x ∷ a) b = simp (suc-sub-suc n (length a)) (ap (λ (t : List ℕ). x ∷ t) (take-over n a b))
+use Rattle.frame.specs.Frame.{unitLength}
 
 -- a part of the two
 pub span-over : (k n : ℕ) (a b : List ℕ) → take n (drop k (a ++ b)) ≡ take n (drop k a) ++ take (n - length (drop k a)) (drop (k - length a) b)

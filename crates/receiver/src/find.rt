@@ -1,13 +1,12 @@
 // What stands at a position, and what is found first, in held bytes and a piece read as one.
 ghost use mathlib.Core.Path.{_≡_};
 ghost use mathlib.Core.List.{_++_};
-ghost use Prim.Native.Nat.{_+_, _<_, _≤_, _%_, _^_};
-ghost use lib.ListN.{length, getD, take, drop};
-ghost use Rattle.octets.specs.Sums.{total};
+ghost use Prim.Native.Nat.{_+_, _<_, _≤_, _^_};
+ghost use lib.ListN.{length, getD};
+ghost use Rattle.frame.specs.Frame.{sumOf};
 ghost use Rattle.reading.specs.Standing.{stands, started, judgedFrame};
 ghost use Rattle.reading.specs.Finding.{first};
 ghost use Rattle.receiver.specs.Runs.{crossing, ahead, settled};
-use crate::rows;
 use reading::Event;
 use reading::Standing;
 use reading::Step;
@@ -154,7 +153,7 @@ fn judge_frame(l: usize, a: &[u8], b: &[u8]) -> Standing
 // The sum of bytes 3 to 27+L of the two.
 fn sum_of(l: usize, a: &[u8], b: &[u8]) -> u8
     requires { ⌜ l ≤ 1024 ⌝ }
-    ensures { λ r. ⌜ r ≡ total (take (25 + l) (drop 2 (now (a .entry) ++ now (b .entry)))) % 256 ⌝ }
+    ensures { λ r. ⌜ r ≡ sumOf l (now (a .entry) ++ now (b .entry)) ⌝ }
 {
     if 27 + l <= a.len() {
         return octets::sum(&a[2..27 + l]);

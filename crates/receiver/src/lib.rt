@@ -4,7 +4,7 @@ ghost use Rattle.reading.specs.Calls.{fresh, called};
 ghost use Rattle.receiver.specs.Receivers.{given, lent, receiverOf, receivedOf, servedOf};
 
 mod find;
-mod rows;
+mod moves;
 mod serve;
 
 use reading::Event;
@@ -71,7 +71,7 @@ impl Receiver {
 pub fn clear_lent(hold: &mut [u8; 1054])
     ensures { λ r. ⌜ now (hold .exit) ≡ fresh 1024 .hold ⌝ }
 {
-    rows::wipe(hold, 0, 1054)
+    rows::wipe(hold)
 }
 
 // The same call on a lent hold, which is not copied.

@@ -3,12 +3,12 @@ ghost use mathlib.Core.Path.{_≡_};
 ghost use mathlib.Core.List.{[], _++_};
 ghost use Prim.Native.Nat.{_+_, _-_, _≤_};
 ghost use lib.ListN.{length, take, drop};
-ghost use Rattle.reading.specs.Standing.{room};
+ghost use Rattle.frame.specs.Frame.{room};
 ghost use Rattle.reading.specs.Calls.{padTo, sound, copied, refusedCall, called};
 ghost use Rattle.receiver.specs.Receivers.{lent, servedOf};
 use crate::Served;
 use crate::find;
-use crate::rows;
+use crate::moves;
 use reading::Event;
 
 // The call: refused by its state or its buffer, else what is found first decides.
@@ -34,9 +34,9 @@ pub fn serve(
     }
     let f = find::find(max, &hold[0..held], piece, skipped);
     let event = f.event;
-    let taken = rows::less(f.looked, held);
     let told = event.told();
     deliver(out, told.length, f.at, &hold[0..held], piece);
+    let taken = rows::less(f.looked, held);
     let now = settle(hold, held, f.next, &piece[0..taken]);
     Served {
         event,
@@ -101,12 +101,12 @@ fn settle(hold: &mut [u8], held: usize, next: usize, taken: &[u8]) -> usize
     ensures { λ r. ⌜ now (hold .exit) ≡ padTo (length (now (hold .entry))) (drop next (take held (now (hold .entry)) ++ now (taken .entry))) ⌝ }
 {
     let keep = rows::less(held, next);
-    rows::shift(hold, next, keep);
+    moves::shift(hold, next, keep);
     let tail = rows::span(taken, rows::less(next, held), taken.len());
     octets::put(hold, keep, tail);
     let now = keep + tail.len();
     if now < held {
-        rows::wipe(hold, now, held);
+        rows::wipe(&mut hold[now..held]);
     }
     now
 }

@@ -1,19 +1,14 @@
 -- `octets::put` meets its contract. The loop's invariant: the first i bytes are in their places and the rest is as it was.
 -- Assumes nothing.
 use Prim.Native.Nat.{ℕ, _+_, _-_, _≤_}
-use native.Mathlib.Numerals.{add-one}
 use native.Mathlib.Omega.{arith}
 use mathlib.Core.Path.{_≡_, sym, ap, _∙_}
-use mathlib.Core.List.{List, _++_}
-use lib.ListN.{length, getD, set, take, drop}
-use lib.Seq.{paste, paste-zero, paste-suc, length-paste, take-length}
-use Rattle.octets.specs.Parts.{putAt}
-use Rattle.octets.proofs.Parts.{put-is, put-none}
+use mathlib.Core.List.{List}
+use lib.ListN.{length, getD, set}
+use lib.Seq.{paste, paste-zero, length-paste}
+use Rattle.octets.proofs.Parts.{put-none, copy-on, copy-whole}
 use Rattle.octets.proofs.put.Statement.{statement}
 use Rattle.octets.proofs.put.Tie as tie
-
-whole : (o : List ℕ) (at : ℕ) (bytes : List ℕ) → at + length bytes ≤ length o → paste o at bytes (length bytes) ≡ putAt o at bytes
-whole o at bytes fits = ap (λ (t : List ℕ). take at o ++ t ++ drop (at + length bytes) o) (take-length bytes) ∙ sym (put-is o at bytes fits)
 
 abbrev Inv-loop : tie.InvT-loop
 Inv-loop out₀ at bytes i₀ out i = (i ≤ length bytes) × (out ≡ paste out₀ at bytes i)
@@ -45,8 +40,7 @@ loop-again c =
     let i = c .before .before .loop .i in (
       omega arith,
       ap (λ (o : List ℕ). set o (a .at + i) (getD (a .bytes .now) i 0)) (c .before .before .loop .inv .1)
-          ∙ paste-suc (a .out .now) (a .at) (a .bytes .now) i 0 (omega arith) (omega arith)
-          ∙ ap (paste (a .out .now) (a .at) (a .bytes .now)) (sym (add-one i)),
+          ∙ copy-on (a .out .now) (a .at) (a .bytes .now) i (omega arith) (omega arith),
     )
 
 same-length : tie.Need-same-length Inv-loop μ-loop
@@ -57,8 +51,7 @@ returns-3 c =
     let a = c .before .before .before .before .args in
     let all : c .before .loop .i ≡ length (a .bytes .now) = omega arith in
     c .before .loop .inv .1
-    ∙ ap (paste (a .out .now) (a .at) (a .bytes .now)) all
-    ∙ whole (a .out .now) (a .at) (a .bytes .now) (omega arith)
+    ∙ copy-whole (a .out .now) (a .at) (a .bytes .now) (c .before .loop .i) all (omega arith)
 
 pub put-spec : {M : Type 1} → statement M
 put-spec =

@@ -7,7 +7,7 @@ use lib.ListN.{length, getD, replicate}
 use Rattle.place.specs.declared.Step.{Step}
 use Rattle.place.specs.Rules.{free}
 use Rattle.places.specs.Rows.{aged, report, nothing, swept}
-use Rattle.places.proofs.Fill.{filled, fill-turn, fill-end}
+use Rattle.octets.proofs.Fill.{filled, fill-turn, fill-end}
 use Rattle.places.proofs.tick_all.Statement.{statement}
 use Rattle.places.proofs.tick_all.Tie as tie
 

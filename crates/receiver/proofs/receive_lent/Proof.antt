@@ -1,7 +1,7 @@
 -- `receiver::receive_lent` meets its contract: the same call with the largest unit fixed. Assumes nothing.
 use borrow.Author.Needs.{needs}
 use native.Mathlib.Omega.{arith}
-use Rattle.reading.specs.Standing.{room}
+use Rattle.frame.specs.Frame.{room}
 use Rattle.receiver.proofs.receive_lent.Statement.{statement}
 use Rattle.receiver.proofs.receive_lent.Tie as tie
 

@@ -1,6 +1,6 @@
 -- `receiver::fresh` meets its contract by computation. Assumes nothing.
 use mathlib.Core.Path.{refl}
-use Rattle.reading.specs.Standing.{room}
+use Rattle.frame.specs.Frame.{room}
 use Rattle.reading.specs.Calls.{padTo}
 use Rattle.receiver.proofs.Receiver.fresh.Statement.{statement}
 use Rattle.receiver.proofs.Receiver.fresh.Tie as tie

@@ -1,7 +1,7 @@
 -- `receiver::find::crosses` meets its contract: each `return` by the tests that led there. Assumes nothing.
 use borrow.Author.Tests.{eq-eqb, ne-eqb, lt-ltb, le-ltb}
 use Rattle.receiver.specs.Runs.{crossing}
-use Rattle.receiver.proofs.Runs.{others-none, others-some}
+use Rattle.rows.proofs.Noises.{others-none, others-some}
 use borrow.Author.Needs.{needs}
 use Rattle.receiver.proofs.find.crosses.Statement.{statement}
 use Rattle.receiver.proofs.find.crosses.Tie as tie

@@ -10,7 +10,7 @@ use Rattle.octets.proofs.Parts.{rest-is}
 use Rattle.reading.specs.Standing.{stands}
 use Rattle.reading.specs.Finding.{first}
 use Rattle.receiver.specs.Runs.{ahead, settled}
-use Rattle.receiver.proofs.Runs.{noise-long}
+use Rattle.rows.proofs.Noises.{noise-long}
 use Rattle.receiver.proofs.Finds.{first-none, first-all, first-crossing, first-here, crossing-low}
 use borrow.Author.Needs.{needs}
 use Rattle.receiver.proofs.find.find.Statement.{statement}

@@ -7,7 +7,7 @@ use lib.ListN.{length, length-drop}
 use Rattle.octets.proofs.Parts.{rest-is}
 use Rattle.reading.specs.Standing.{stands}
 use Rattle.receiver.specs.Runs.{ahead, settled}
-use Rattle.receiver.proofs.Runs.{noise-long}
+use Rattle.rows.proofs.Noises.{noise-long}
 use Rattle.receiver.proofs.Finds.{first-alone}
 use Rattle.receiver.proofs.find.find_in.Statement.{statement}
 use Rattle.receiver.proofs.find.find_in.Tie as tie

@@ -1,7 +1,8 @@
 -- `receiver::find::judge_frame` meets its contract: each `return` by the tests that led there. Assumes nothing.
 use mathlib.Core.Path.{sym, _∙_}
 use borrow.Author.Tests.{eq-eqb, ne-eqb}
-use Rattle.reading.specs.Standing.{judgedFrame, ended, summed}
+use Rattle.frame.specs.Frame.{ended, summed}
+use Rattle.reading.specs.Standing.{judgedFrame}
 use Rattle.receiver.proofs.Spans.{is, is-not}
 use borrow.Author.Needs.{needs}
 use Rattle.receiver.proofs.find.judge_frame.Statement.{statement}

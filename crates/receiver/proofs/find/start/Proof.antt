@@ -3,7 +3,8 @@ use mathlib.Core.Path.{_≡_, _∙_}
 use mathlib.Core.List.{_++_}
 use Prim.Native.Nat.{_+_, _*_}
 use borrow.Author.Tests.{le-leb, lt-leb}
-use Rattle.reading.specs.Standing.{started, whenThere, unitLength}
+use Rattle.frame.specs.Frame.{unitLength}
+use Rattle.reading.specs.Standing.{started, whenThere}
 use Rattle.receiver.proofs.Spans.{few, enough, unit-is}
 use borrow.Author.Needs.{needs}
 use Rattle.receiver.proofs.find.start.Statement.{statement}

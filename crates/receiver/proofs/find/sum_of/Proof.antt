@@ -12,14 +12,14 @@ returns : tie.Need-returns
 returns c = c .sum .ensures ∙ sum-front (c .before .before .before .before .before .args .l) (c .before .before .before .before .before .args .a .now) (c .before .before .before .before .before .args .b .now) (c .before .before .before .before .before .pre) (c .before .before .if1 .taken)
 
 sub-span : tie.Need-sub-span
-sub-span c = omega (arith, ap (length {A = ℕ}) (c .before .span .ensures), length-take (25 + c .before .before .before .before .before .args .l) (drop 2 (c .before .before .before .before .before .args .a .now)))
+sub-span c = omega (arith, ap (length {A = ℕ}) (c .before .span .ensures .0), length-take (25 + c .before .before .before .before .before .args .l) (drop 2 (c .before .before .before .before .before .args .a .now)))
 
 returns-2 : tie.Need-returns-2
 returns-2 c =
     let a = c .before .before .before .before .before .before .before .before .before .args in
     let place : drop (c .before .before .before .before .less .result) (a .b .now) ≡ drop (2 - length (a .a .now)) (a .b .now) = ap (λ (n : ℕ). drop n (a .b .now)) (c .before .before .before .before .less .ensures) in
-    sum-both (a .l) (a .a .now) (a .b .now) (c .before .before .before .before .before .span .result .now) (c .before .before .before .span2 .result .now) _ _ _ (c .before .before .before .before .before .before .before .before .before .pre) (c .wrapping-add-u8 .ensures) (c .before .before .before .before .before .span .ensures)
-    (c .before .before .before .span2 .ensures ∙ ap (take (25 + a .l - length (c .before .before .before .before .before .span .result .now))) place) (c .before .before .sum2 .ensures) (c .before .sum3 .ensures)
+    sum-both (a .l) (a .a .now) (a .b .now) (c .before .before .before .before .before .span .result .now) (c .before .before .before .span2 .result .now) _ _ _ (c .before .before .before .before .before .before .before .before .before .pre) (c .wrapping-add-u8 .ensures) (c .before .before .before .before .before .span .ensures .0)
+    (c .before .before .before .span2 .ensures .0 ∙ ap (take (25 + a .l - length (c .before .before .before .before .before .span .result .now))) place) (c .before .before .sum2 .ensures) (c .before .sum3 .ensures)
 
 pub sum-of-spec : {M : Type 1} → statement M
 sum-of-spec =

@@ -16,10 +16,10 @@ returns-2 c =
     let a = c .before .before .before .before .before .before .before .before .before .before .args in
     c .before .before .put .ensures
     ∙ put-front (a .out .now) (c .before .before .before .span .result .now) (take (a .n) (drop (a .at) (a .held .now ++ a .piece .now)))
-    (c .before .before .before .span .ensures ∙ packet-back (a .n) (a .at) (a .held .now) (a .piece .now) (c .before .before .before .before .before .if2 .taken)) (c .before .before .before .before .before .before .before .before .before .before .pre)
+    (c .before .before .before .span .ensures .0 ∙ packet-back (a .n) (a .at) (a .held .now) (a .piece .now) (c .before .before .before .before .before .if2 .taken)) (c .before .before .before .before .before .before .before .before .before .before .pre)
 
 sub-span-2 : tie.Need-sub-span-2
-sub-span-2 c = omega (arith, ap (length {A = ℕ}) (c .before .before .before .before .before .span2 .ensures), length-take (c .before .before .before .before .before .before .before .before .before .before .before .args .n) (drop (c .before .before .before .before .before .before .before .before .before .before .before .args .at) (c .before .before .before .before .before .before .before .before .before .before .before .args .held .now)))
+sub-span-2 c = omega (arith, ap (length {A = ℕ}) (c .before .before .before .before .before .span2 .ensures .0), length-take (c .before .before .before .before .before .before .before .before .before .before .before .args .n) (drop (c .before .before .before .before .before .before .before .before .before .before .before .args .at) (c .before .before .before .before .before .before .before .before .before .before .before .args .held .now)))
 
 returns-3 : tie.Need-returns-3
 returns-3 c =
@@ -28,8 +28,8 @@ returns-3 c =
     let back = c .before .before .before .span3 .result .now in
     let here : a .at - length (a .held .now) ≡ 0 = omega arith in
     let parts : front ++ back ≡ take (a .n) (drop (a .at) (a .held .now ++ a .piece .now)) =
-    parts-are (a .at) (a .n) (a .held .now) (a .piece .now) front back (c .before .before .before .before .before .before .before .before .before .span2 .ensures)
-    (c .before .before .before .span3 .ensures ∙ ap (λ (k : ℕ). take (a .n - length front) (drop k (a .piece .now))) (sym here)) in
+    parts-are (a .at) (a .n) (a .held .now) (a .piece .now) front back (c .before .before .before .before .before .before .before .before .before .span2 .ensures .0)
+    (c .before .before .before .span3 .ensures .0 ∙ ap (λ (k : ℕ). take (a .n - length front) (drop k (a .piece .now))) (sym here)) in
     c .before .before .put3 .ensures
     ∙ ap (λ (o : List ℕ). putAt o (length front) back) (c .before .before .before .before .before .before .before .put2 .ensures)
     ∙ put-two (a .out .now) front back (take (a .n) (drop (a .at) (a .held .now ++ a .piece .now))) parts (c .before .before .before .before .before .before .before .before .before .before .before .before .before .before .before .pre)

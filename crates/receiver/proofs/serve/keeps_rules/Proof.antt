@@ -3,8 +3,9 @@ use native.Mathlib.Omega.{arith}
 use mathlib.Core.Path.{ap, _∙_}
 use borrow.Author.Tests.{le-leb, lt-leb}
 use Rattle.octets.proofs.Parts.{rest-is}
-use Rattle.reading.specs.Standing.{room}
-use Rattle.reading.specs.Calls.{sound, allZero}
+use Rattle.frame.specs.Frame.{room}
+use Rattle.octets.specs.Searches.{allZero}
+use Rattle.reading.specs.Calls.{sound}
 use Rattle.receiver.proofs.serve.keeps_rules.Statement.{statement}
 use Rattle.receiver.proofs.serve.keeps_rules.Tie as tie
 

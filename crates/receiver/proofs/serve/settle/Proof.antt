@@ -1,63 +1,79 @@
--- `receiver::serve::settle` meets its contract: the row moved and filled, and wiped where it was held further. Assumes nothing.
-use Prim.Native.Nat.{ℕ}
+-- `receiver::serve::settle` meets its contract: the held bytes moved, what was taken put behind them, and zeros where more was held before.
+-- Assumes nothing.
+use Prim.Native.Nat.{_+_}
 use native.Mathlib.Omega.{arith}
-use mathlib.Core.List.{List}
-use mathlib.Core.Path.{ap, _∙_}
-use lib.ListN.{length, take, drop}
-use Rattle.octets.specs.Parts.{putAt}
-use Rattle.receiver.proofs.Moves.{wiped}
-use Rattle.receiver.proofs.Settles.{rest, new-is, put-rest, settled-long, settled-short}
+use mathlib.Core.Path.{refl, ap, _∙_}
 use borrow.Author.Needs.{needs}
+use lib.ListN.{length}
+use Rattle.reading.proofs.Pads.{pad-long}
+use Rattle.receiver.proofs.Settles.{Settling, new-is, settled-size, settled-long, settled-short}
 use Rattle.receiver.proofs.serve.settle.Statement.{statement}
 use Rattle.receiver.proofs.serve.settle.Tie as tie
 
+-- what was done when the new length is taken
+so : (c : tie.After-slice-known3)
+    → let a = c .before .before .before .before .before .before .before .before .before .before .before .before .before .args in
+    let keep = c .before .before .before .before .before .before .before .before .before .before .less .result in
+    Settling (a .hold .now) (a .held) (a .next) (a .taken .now) keep (c .before .before .before .before .span .result .now) (c .before .before .put .last .0)
+so c =
+    let start = c .before .before .before .before .before .before .before .before .before .before .before .before .before in
+    let front = c .before .before .before .before .before .before .before .before .shift in
+    let from = c .before .before .before .before .before .less2 in
+    record {
+      few = start .pre .0;
+      pad = start .pre .1 .0;
+      fits = start .pre .1 .1;
+      keeps = c .before .before .before .before .before .before .before .before .before .before .less .ensures;
+      from = from .result;
+      later = from .ensures;
+      gives = c .before .before .before .before .span .ensures .0;
+      front = front .last .0;
+      moves = front .ensures;
+      puts = c .before .before .put .ensures;
+    }
+
+add-now : tie.Need-add-now
+add-now c = omega (arith, new-is _ _ _ _ _ _ _ (so c), so c .fits)
+
+part-wipe-start : tie.Need-part-wipe-start
+part-wipe-start c = omega (arith, settled-size _ _ _ _ _ _ _ (so (c .before)), so (c .before) .few)
+
+part-wipe-end : tie.Need-part-wipe-end
+part-wipe-end c = omega (arith, settled-size _ _ _ _ _ _ _ (so (c .before)), so (c .before) .few)
+
 returns : tie.Need-returns
 returns c =
-    let a = c .before .before .before .before .before .before .before .before .before .before .before .before .before .before .before .before .before .before .args in
-    let row = a .hold .now in
-    let few = c .before .before .before .before .before .before .before .before .before .before .before .before .before .before .before .before .before .before .pre .0 in
-    let pad = c .before .before .before .before .before .before .before .before .before .before .before .before .before .before .before .before .before .before .pre .1 .0 in
-    let fits = c .before .before .before .before .before .before .before .before .before .before .before .before .before .before .before .before .before .before .pre .1 .1 in
-    let tail-is = c .before .before .before .before .before .before .before .before .before .span .ensures ∙ ap (λ (k : ℕ). take (length (a .taken .now)) (drop k (a .taken .now))) (c .before .before .before .before .before .before .before .before .before .before .less2 .ensures) in
-    let new = new-is row (a .held) (a .next) (a .taken .now) few pad fits (c .before .before .before .before .before .before .before .before .before .before .before .before .before .before .before .less .result) (c .before .before .before .before .before .before .before .before .before .span .result .now) (c .before .before .before .before .before .before .before .before .before .before .before .before .before .before .before .less .ensures) tail-is in (
-      new,
-      c .before .before .wipe .ensures
-          ∙ ap (λ (n : ℕ). wiped (c .before .before .before .before .before .before .before .put .last .0) n (a .held)) new
-          ∙ ap (λ (l : List ℕ). wiped l (length (rest row (a .held) (a .next) (a .taken .now) few pad fits)) (a .held))
-          (c .before .before .before .before .before .before .before .put .ensures
-          ∙ ap (λ (l : List ℕ). putAt l (c .before .before .before .before .before .before .before .before .before .before .before .before .before .before .before .less .result) (c .before .before .before .before .before .before .before .before .before .span .result .now)) (c .before .before .before .before .before .before .before .before .before .before .before .before .before .shift .ensures)
-          ∙ put-rest row (a .held) (a .next) (a .taken .now) few pad fits (c .before .before .before .before .before .before .before .before .before .before .before .before .before .before .before .less .result) (c .before .before .before .before .before .before .before .before .before .span .result .now) (c .before .before .before .before .before .before .before .before .before .before .before .before .before .before .before .less .ensures) tail-is)
-          ∙ settled-short row (a .held) (a .next) (a .taken .now) few pad fits (omega (arith, new, c .before .before .before .before .if1 .taken)),
-    )
+    let short = c .before .before .before .before in
+    let s = so (short .before) in
+    (new-is _ _ _ _ _ _ _ s, settled-short _ _ _ _ _ _ _ s _ refl _ (short .if1 .taken) (c .before .before .wipe .ensures))
+
+same-length : tie.Need-same-length
+same-length c =
+    let short = c .before .before .before .before in
+    let s = so (short .before) in
+    ap length (settled-short _ _ _ _ _ _ _ s _ refl _ (short .if1 .taken) (c .before .before .wipe .ensures)) ∙ pad-long _ _ (s .fits)
+
+same-length-2 : tie.Need-same-length-2
+same-length-2 c = settled-size _ _ _ _ _ _ _ (so (c .before))
 
 returns-2 : tie.Need-returns-2
-returns-2 c =
-    let a = c .before .before .before .before .before .before .before .before .before .before .before .before .before .before .args in
-    let row = a .hold .now in
-    let few = c .before .before .before .before .before .before .before .before .before .before .before .before .before .before .pre .0 in
-    let pad = c .before .before .before .before .before .before .before .before .before .before .before .before .before .before .pre .1 .0 in
-    let fits = c .before .before .before .before .before .before .before .before .before .before .before .before .before .before .pre .1 .1 in
-    let tail-is = c .before .before .before .before .before .span .ensures ∙ ap (λ (k : ℕ). take (length (a .taken .now)) (drop k (a .taken .now))) (c .before .before .before .before .before .before .less2 .ensures) in
-    let new = new-is row (a .held) (a .next) (a .taken .now) few pad fits (c .before .before .before .before .before .before .before .before .before .before .before .less .result) (c .before .before .before .before .before .span .result .now) (c .before .before .before .before .before .before .before .before .before .before .before .less .ensures) tail-is in (
-      new,
-      c .before .before .before .put .ensures
-          ∙ ap (λ (l : List ℕ). putAt l (c .before .before .before .before .before .before .before .before .before .before .before .less .result) (c .before .before .before .before .before .span .result .now)) (c .before .before .before .before .before .before .before .before .before .shift .ensures)
-          ∙ put-rest row (a .held) (a .next) (a .taken .now) few pad fits (c .before .before .before .before .before .before .before .before .before .before .before .less .result) (c .before .before .before .before .before .span .result .now) (c .before .before .before .before .before .before .before .before .before .before .before .less .ensures) tail-is
-          ∙ settled-long row (a .held) (a .next) (a .taken .now) few pad fits (omega (arith, new, c .if1 .left)),
-    )
+returns-2 c = let s = so (c .before) in (new-is _ _ _ _ _ _ _ s, settled-long _ _ _ _ _ _ _ s (c .if1 .left))
 
 pub settle-spec : {M : Type 1} → statement M
 settle-spec =
     tie.close
     (tie.spec
+    (λ c κs. tt)
     (λ c κs. search needs)
-    (λ c κs. search needs)
-    (λ c κs. search needs)
-    (λ c κs. search needs)
-    (λ c κs. search needs)
+    (λ c κs. tt)
+    (λ c κs. tt)
+    (λ c κs. tt)
+    add-now
     (λ c. search needs)
-    (λ c κs. search needs)
-    (λ c. search needs)
+    part-wipe-start
+    part-wipe-end
+    (λ c κs. tt)
+    same-length
     returns
-    (λ c. search needs)
+    same-length-2
     returns-2)

@@ -1,0 +1,5 @@
+pub mod Tests
+pub mod Blocks
+pub mod Plains
+pub mod Noises
+pub mod Wipes
