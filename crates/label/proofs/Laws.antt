@@ -1,12 +1,12 @@
 -- The laws of a label: its two round trips, and how a judgement is reached. Assumes nothing.
-use Prim.Native.Nat.{ℕ, _+_, _<_}
+use Prim.Native.Nat.{ℕ, _+_, _≤_, _<_}
 use native.Mathlib.Numerals.{add-one, add-two, add-three, add-four, add-five}
 use native.Mathlib.Omega.{arith}
 use mathlib.Core.Path.{_≡_, refl, sym, ap, _∙_}
 use mathlib.Core.List.{List, _++_}
 use lib.Dec.{lit<}
-use lib.ListN.{length, getD, drop}
-use lib.Seq.{take-all, getD-drop}
+use lib.ListN.{length, getD, take, drop}
+use lib.Seq.{take-all, getD-take, getD-drop}
 use Rattle.octets.specs.Parts.{oneByOne}
 use Rattle.octets.proofs.Parts.{one-by-one}
 use Rattle.label.specs.declared.Label.{Label}
@@ -35,3 +35,7 @@ label-bytes s h = one-by-one s 0 6 (omega arith) ∙ take-all 6 s (omega arith)
 -- a label is its six bytes, wherever they stand
 pub label-same : (s t : List ℕ) → ((i : ℕ) → i < 6 → getD s i 0 ≡ getD t i 0) → labelOf s ≡ labelOf t
 label-same s t h = same t (labelOf s) (h 0 (lit< tt)) (h 1 (lit< tt)) (h 2 (lit< tt)) (h 3 (lit< tt)) (h 4 (lit< tt)) (h 5 (lit< tt))
+
+-- and is read from them alone
+pub label-alone : (s : List ℕ) (at n : ℕ) → 6 ≤ n → labelOf (take n (drop at s)) ≡ labelOf (drop at s)
+label-alone s at n h = label-same (take n (drop at s)) (drop at s) (λ i l. getD-take n (drop at s) i 0 (omega arith))

@@ -1,7 +1,8 @@
-pub mod Typing
 pub mod Wording
-pub mod Filling
+pub mod Heads
+pub mod Judging
 pub mod Placed
 pub mod Kept
 pub mod Promises
+pub mod Reread
 pub mod Examples

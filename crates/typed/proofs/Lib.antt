@@ -1,0 +1,5 @@
+pub mod Typing
+pub mod Bodies
+pub mod Labelled
+pub mod Stages
+pub mod Examples
