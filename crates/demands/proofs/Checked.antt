@@ -6,11 +6,12 @@ use lib.ListN.{length, set, take, drop, replicate}
 use Rattle.exchange.specs.declared.Exchanges.{Exchanges}
 use Rattle.exchange.specs.declared.Told.the-variants.{Send}
 use Rattle.exchange.specs.Table.{legal, made, found, begun, ticking}
-use Rattle.kinds.specs.Table.{rows, findRow}
+use Rattle.frame.specs.Frame.{room, unitLength, ended, summed}
+use Rattle.kinds.specs.Table.{table, rowsOf, rows, findRow}
 use Rattle.label.specs.Times.{judged, inRanges}
 use Rattle.octets.specs.Numbers.{lowFirst}
 use Rattle.octets.specs.Parts.{part}
-use Rattle.octets.specs.Searches.{firstFit, anyFits}
+use Rattle.octets.specs.Searches.{firstFit, anyFits, every}
 use Rattle.octets.specs.Sums.{total}
 use Rattle.octets.proofs.Examples.{A}
 use Rattle.packet.specs.Frames.{judgedContent, judgedPacket}
@@ -20,9 +21,9 @@ use Rattle.place.specs.Steps.{denied, ticked}
 use Rattle.places.specs.declared.Report.{Report}
 use Rattle.places.specs.Rows.{lowestFree, isOpenAs, twice, allKeep, serialFor, swept}
 use Rattle.reading.specs.Values.{told, packetOf}
-use Rattle.reading.specs.Standing.{room, whenThere, unitLength, ended, summed, judgedFrame, started, stands}
+use Rattle.reading.specs.Standing.{whenThere, judgedFrame, started, stands}
 use Rattle.reading.specs.Finding.{onward, more, noise, hit, found as foundIn, first}
-use Rattle.reading.specs.Calls.{State, Answer, padTo, every, sound, answerBy, called, fresh}
+use Rattle.reading.specs.Calls.{State, Answer, padTo, sound, answerBy, called, fresh}
 use Rattle.unit.specs.declared.Carrier.the-variants.{Any}
 use Rattle.unit.specs.Objects.{textSize, endOf, walk, timely}
 use Rattle.unit.specs.Units.{judgedUnit, judgedUnder}
@@ -107,5 +108,5 @@ checked =
     ∷ []
 
 pub checked-so : map (λ (e : List ℕ × List ℕ). e .0) checked ≡ map (λ (e : List ℕ × List ℕ). e .1) checked
-unfolding judgedPacket judgedContent judgedUnder judgedUnit inOrder rows findRow textSize endOf walk timely judged inRanges firstFit anyFits lowFirst part total called answerBy sound every padTo first foundIn more noise hit onward stands started judgedFrame summed ended unitLength whenThere room told packetOf made found begun ticking legal lowestFree isOpenAs twice allKeep serialFor swept isOpen isZero holds keeps denied ticked
+unfolding judgedPacket judgedContent judgedUnder judgedUnit inOrder rowsOf table findRow textSize endOf walk timely judged inRanges firstFit anyFits lowFirst part total called answerBy sound every padTo first foundIn more noise hit onward stands started judgedFrame summed ended unitLength whenThere room told packetOf made found begun ticking legal lowestFree isOpenAs twice allKeep serialFor swept isOpen isZero holds keeps denied ticked
 checked-so = refl

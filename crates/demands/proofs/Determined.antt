@@ -25,18 +25,22 @@ use Rattle.kinds.proofs.Row.is_carried_by.Reads as kinds-row-is-carried-by
 use Rattle.unit.proofs.judge_alone.Reads as unit-judge-alone
 use Rattle.unit.proofs.judge_under.Reads as unit-judge-under
 use Rattle.unit.proofs.object_place.Reads as unit-object-place
-use Rattle.unit.proofs.slot_place.Reads as unit-slot-place
-use Rattle.fields.proofs.read_fields.Reads as fields-read-fields
-use Rattle.fields.proofs.image_of.Reads as fields-image-of
-use Rattle.objects.proofs.read.Reads as objects-read
-use Rattle.objects.proofs.description_place.Reads as objects-description-place
-use Rattle.packet.proofs.judge_frame.Reads as packet-judge-frame
+use Rattle.fields.proofs.Fields.of.Reads as fields-of
+use Rattle.unit.proofs.judge.Reads as unit-judge
+use Rattle.unit.proofs.place_in.Reads as unit-place-in
+use Rattle.typed.proofs.read.Reads as typed-read
+use Rattle.typed.proofs.description_place.Reads as typed-description-place
+use Rattle.frame.proofs.unit_length.Reads as frame-unit-length
+use Rattle.frame.proofs.judge_frame.Reads as frame-judge-frame
 use Rattle.packet.proofs.judge_content.Reads as packet-judge-content
 use Rattle.packet.proofs.judge.Reads as packet-judge
 use Rattle.packet.proofs.header_of.Reads as packet-header-of
 use Rattle.packet.proofs.read.Reads as packet-read
 use Rattle.packet.proofs.unit_place.Reads as packet-unit-place
 use Rattle.reading.proofs.Event.told.Reads as reading-event-told
+use Rattle.rows.proofs.less.Reads as rows-less
+use Rattle.rows.proofs.clear.Reads as rows-clear
+use Rattle.rows.proofs.noise.Reads as rows-noise
 use Rattle.receiver.proofs.Receiver.fresh.Reads as receiver-receiver-fresh
 use Rattle.place.proofs.is_open.Reads as place-is-open
 use Rattle.place.proofs.awaits.Reads as place-awaits
@@ -62,8 +66,6 @@ use Rattle.exchange.proofs.Exchanges.tick.Reads as exchange-exchanges-tick
 use Rattle.devices.proofs.judge.Reads as devices-judge
 use Rattle.devices.proofs.find_place.Reads as devices-find-place
 use Rattle.reply.proofs.Due.command.Reads as reply-due-command
-use Rattle.flat.proofs.flat_of.Reads as flat-flat-of
-use Rattle.flat.proofs.fields_from.Reads as flat-fields-from
 use Rattle.octets.proofs.wide.Reads as octets-wide
 
 pub octets-byte-at-determined : (κs : _) (x : _) (r s : _) → octets-byte-at.Post κs x r x → octets-byte-at.Post κs x s x → r ≡ s
@@ -138,23 +140,35 @@ unit-judge-under-determined κs x r s a b = a ∙ sym b
 pub unit-object-place-determined : (κs : _) (x : _) (r s : _) → unit-object-place.Post κs x r x → unit-object-place.Post κs x s x → r ≡ s
 unit-object-place-determined κs x r s a b = a ∙ sym b
 
-pub unit-slot-place-determined : (κs : _) (x : _) (r s : _) → unit-slot-place.Post κs x r x → unit-slot-place.Post κs x s x → r ≡ s
-unit-slot-place-determined κs x r s a b = a ∙ sym b
+pub fields-of-determined : (κs : _) (x : _) (r s : _) → fields-of.Post κs x r x → fields-of.Post κs x s x → r ≡ s
+fields-of-determined κs x r s a b = a ∙ sym b
 
-pub fields-read-fields-determined : (κs : _) (x : _) (r s : _) → fields-read-fields.Post κs x r x → fields-read-fields.Post κs x s x → r ≡ s
-fields-read-fields-determined κs x r s a b = a ∙ sym b
+pub unit-judge-determined : (κs : _) (x : _) (r s : _) → unit-judge.Post κs x r x → unit-judge.Post κs x s x → r ≡ s
+unit-judge-determined κs x r s a b = a ∙ sym b
 
-pub fields-image-of-determined : (κs : _) (x : _) (r s : _) → fields-image-of.Post κs x r x → fields-image-of.Post κs x s x → r ≡ s
-fields-image-of-determined κs x r s a b = a ∙ sym b
+pub unit-place-in-determined : (κs : _) (x : _) (r s : _) → unit-place-in.Post κs x r x → unit-place-in.Post κs x s x → r ≡ s
+unit-place-in-determined κs x r s a b = a ∙ sym b
 
-pub objects-read-determined : (κs : _) (x : _) (r s : _) → objects-read.Post κs x r x → objects-read.Post κs x s x → r ≡ s
-objects-read-determined κs x r s a b = a ∙ sym b
+pub rows-less-determined : (κs : _) (x : _) (r s : _) → rows-less.Post κs x r x → rows-less.Post κs x s x → r ≡ s
+rows-less-determined κs x r s a b = a ∙ sym b
 
-pub objects-description-place-determined : (κs : _) (x : _) (r s : _) → objects-description-place.Post κs x r x → objects-description-place.Post κs x s x → r ≡ s
-objects-description-place-determined κs x r s a b = a ∙ sym b
+pub rows-clear-determined : (κs : _) (x : _) (r s : _) → rows-clear.Post κs x r x → rows-clear.Post κs x s x → r ≡ s
+rows-clear-determined κs x r s a b = a ∙ sym b
 
-pub packet-judge-frame-determined : (κs : _) (x : _) (r s : _) → packet-judge-frame.Post κs x r x → packet-judge-frame.Post κs x s x → r ≡ s
-packet-judge-frame-determined κs x r s a b = a ∙ sym b
+pub rows-noise-determined : (κs : _) (x : _) (r s : _) → rows-noise.Post κs x r x → rows-noise.Post κs x s x → r ≡ s
+rows-noise-determined κs x r s a b = a ∙ sym b
+
+pub typed-read-determined : (κs : _) (x : _) (r s : _) → typed-read.Post κs x r x → typed-read.Post κs x s x → r ≡ s
+typed-read-determined κs x r s a b = a ∙ sym b
+
+pub typed-description-place-determined : (κs : _) (x : _) (r s : _) → typed-description-place.Post κs x r x → typed-description-place.Post κs x s x → r ≡ s
+typed-description-place-determined κs x r s a b = a ∙ sym b
+
+pub frame-unit-length-determined : (κs : _) (x : _) (r s : _) → frame-unit-length.Post κs x r x → frame-unit-length.Post κs x s x → r ≡ s
+frame-unit-length-determined κs x r s a b = a .0 ∙ sym (b .0)
+
+pub frame-judge-frame-determined : (κs : _) (x : _) (r s : _) → frame-judge-frame.Post κs x r x → frame-judge-frame.Post κs x s x → r ≡ s
+frame-judge-frame-determined κs x r s a b = a ∙ sym b
 
 pub packet-judge-content-determined : (κs : _) (x : _) (r s : _) → packet-judge-content.Post κs x r x → packet-judge-content.Post κs x s x → r ≡ s
 packet-judge-content-determined κs x r s a b = a ∙ sym b
@@ -248,12 +262,6 @@ octets-wide-determined κs x r s a b = a .0 ∙ sym (b .0)
 
 pub reply-due-command-determined : (κs : _) (x : _) (r s : _) → reply-due-command.Post κs x r x → reply-due-command.Post κs x s x → r ≡ s
 reply-due-command-determined κs x r s a b = a ∙ sym b
-
-pub flat-flat-of-determined : (κs : _) (x : _) (r s : _) → flat-flat-of.Post κs x r x → flat-flat-of.Post κs x s x → r ≡ s
-flat-flat-of-determined κs x r s a b = a ∙ sym b
-
-pub flat-fields-from-determined : (κs : _) (x : _) (r s : _) → flat-fields-from.Post κs x r x → flat-fields-from.Post κs x s x → r ≡ s
-flat-fields-from-determined κs x r s a b = a ∙ sym b
 
 pub place-all-outcomes-determined : (κs : _) (x : _) (r s : _) → place-all-outcomes.Post κs x r x → place-all-outcomes.Post κs x s x → r ≡ s
 place-all-outcomes-determined κs x r s a b = a ∙ sym b

@@ -3,7 +3,7 @@ use Prim.Native.Nat.{ℕ}
 use mathlib.Core.List.{List}
 use mathlib.Core.Path.{_≡_, sym, _∙_}
 use denote.Ref.{RefT, now}
-use Rattle.flat.specs.declared.Flat.{Flat}
+use Rattle.fields.specs.declared.Fields.{Fields}
 use Rattle.label.specs.declared.Label.{Label}
 use Rattle.packet.specs.declared.Header.{Header}
 use Rattle.trawnosz.specs.declared.AnswerC.{AnswerC}
@@ -94,7 +94,7 @@ pub write-packet-determined : (κs : _) (out o o' : RefT (List ℕ)) (h : Header
     → write-packet.Post κs (out, (h, (l, tt))) r (o, (h, (l, tt))) → write-packet.Post κs (out, (h, (l, tt))) s (o', (h, (l, tt))) → (r ≡ s) × (now o ≡ now o')
 write-packet-determined κs out o o' h l r s a b = (a .0 ∙ sym (b .0), a .1 ∙ sym (b .1))
 
-pub write-packet-object-determined : (κs : _) (out o o' : RefT (List ℕ)) (l : ℕ) (k : ℕ) (f : Flat) (d : RefT (List ℕ)) (r s : Verdict)
+pub write-packet-object-determined : (κs : _) (out o o' : RefT (List ℕ)) (l : ℕ) (k : ℕ) (f : Fields) (d : RefT (List ℕ)) (r s : Verdict)
     → write-packet-object.Post κs (out, (l, (k, (f, (d, tt))))) r (o, (l, (k, (f, (d, tt))))) → write-packet-object.Post κs (out, (l, (k, (f, (d, tt))))) s (o', (l, (k, (f, (d, tt))))) → (r ≡ s) × (now o ≡ now o')
 write-packet-object-determined κs out o o' l k f d r s a b = (a .0 ∙ sym (b .0), a .1 ∙ sym (b .1))
 
@@ -106,7 +106,7 @@ pub answer-to-determined : (κs : _) (out o o' : RefT (List ℕ)) (p : RefT (Lis
     → answer-to.Post κs (p, (t, (out, tt))) r (p, (t, (o, tt))) → answer-to.Post κs (p, (t, (out, tt))) s (p, (t, (o', tt))) → (r ≡ s) × (now o ≡ now o')
 answer-to-determined κs out o o' p t r s a b = (a .0 ∙ sym (b .0), a .1 ∙ sym (b .1))
 
-pub write-object-determined : (κs : _) (out o o' : RefT (List ℕ)) (k : ℕ) (f : Flat) (d : RefT (List ℕ)) (r s : Verdict)
+pub write-object-determined : (κs : _) (out o o' : RefT (List ℕ)) (k : ℕ) (f : Fields) (d : RefT (List ℕ)) (r s : Verdict)
     → write-object.Post κs (out, (k, (f, (d, tt)))) r (o, (k, (f, (d, tt)))) → write-object.Post κs (out, (k, (f, (d, tt)))) s (o', (k, (f, (d, tt)))) → (r ≡ s) × (now o ≡ now o')
 write-object-determined κs out o o' k f d r s a b = (a .0 ∙ sym (b .0), a .1 ∙ sym (b .1))
 

@@ -11,7 +11,7 @@ use Rattle.reply.specs.declared.Answer.{Answer}
 use Rattle.verdict.specs.declared.Verdict.{Verdict}
 use Rattle.octets.proofs.part_of.Reads as octets-part-of
 use Rattle.unit.proofs.object.Reads as unit-object
-use Rattle.objects.proofs.description.Reads as objects-description
+use Rattle.typed.proofs.description.Reads as typed-description
 use Rattle.packet.proofs.unit_of.Reads as packet-unit-of
 use Rattle.devices.proofs.find.Reads as devices-find
 use Rattle.output.proofs.write.Reads as output-write
@@ -21,6 +21,8 @@ use Rattle.objects.proofs.write.Reads as objects-write
 use Rattle.objects.proofs.write_text.Reads as objects-write-text
 use Rattle.reply.proofs.answer_to.Reads as reply-answer-to
 use Rattle.octets.proofs.put.Reads as octets-put
+use Rattle.rows.proofs.span.Reads as rows-span
+use Rattle.rows.proofs.wipe.Reads as rows-wipe
 
 pub octets-part-of-determined : (κs : _) (x : _) (r s : RefT (List ℕ)) → octets-part-of.Post κs x r x → octets-part-of.Post κs x s x → (now r ≡ now s) × (ptr r ≡ ptr s)
 octets-part-of-determined κs x r s a b = (a .0 ∙ sym (b .0), a .1 ∙ sym (b .1))
@@ -28,8 +30,8 @@ octets-part-of-determined κs x r s a b = (a .0 ∙ sym (b .0), a .1 ∙ sym (b 
 pub unit-object-determined : (κs : _) (x : _) (r s : RefT (List ℕ)) → unit-object.Post κs x r x → unit-object.Post κs x s x → (now r ≡ now s) × (ptr r ≡ ptr s)
 unit-object-determined κs x r s a b = (a .0 ∙ sym (b .0), a .1 ∙ sym (b .1))
 
-pub objects-description-determined : (κs : _) (x : _) (r s : RefT (List ℕ)) → objects-description.Post κs x r x → objects-description.Post κs x s x → (now r ≡ now s) × (ptr r ≡ ptr s)
-objects-description-determined κs x r s a b = (a .0 ∙ sym (b .0), a .1 ∙ sym (b .1))
+pub typed-description-determined : (κs : _) (x : _) (r s : RefT (List ℕ)) → typed-description.Post κs x r x → typed-description.Post κs x s x → (now r ≡ now s) × (ptr r ≡ ptr s)
+typed-description-determined κs x r s a b = (a .0 ∙ sym (b .0), a .1 ∙ sym (b .1))
 
 pub packet-unit-of-determined : (κs : _) (x : _) (r s : RefT (List ℕ)) → packet-unit-of.Post κs x r x → packet-unit-of.Post κs x s x → (now r ≡ now s) × (ptr r ≡ ptr s)
 packet-unit-of-determined κs x r s a b = (a .0 ∙ sym (b .0), a .1 ∙ sym (b .1))
@@ -64,3 +66,9 @@ reply-answer-to-determined κs out o o' p t r s a b = (a .0 ∙ sym (b .0), a .1
 pub octets-put-determined : (κs : _) (out o o' : RefT (List ℕ)) (k : ℕ) (t : RefT (List ℕ)) (r s : _)
     → octets-put.Post κs (out, (k, (t, tt))) r (o, (k, (t, tt))) → octets-put.Post κs (out, (k, (t, tt))) s (o', (k, (t, tt))) → now o ≡ now o'
 octets-put-determined κs out o o' k t r s a b = a ∙ sym b
+
+pub rows-span-determined : (κs : _) (x : _) (r s : RefT (List ℕ)) → rows-span.Post κs x r x → rows-span.Post κs x s x → (now r ≡ now s) × (ptr r ≡ ptr s)
+rows-span-determined κs x r s a b = (a .0 ∙ sym (b .0), a .1 ∙ sym (b .1))
+
+pub rows-wipe-determined : (κs : _) (row o o' : RefT (List ℕ)) (r s : _) → rows-wipe.Post κs (row, tt) r (o, tt) → rows-wipe.Post κs (row, tt) s (o', tt) → now o ≡ now o'
+rows-wipe-determined κs row o o' r s a b = a ∙ sym b

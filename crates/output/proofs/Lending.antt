@@ -9,13 +9,13 @@ use lib.ListN.{length, take, drop, length-drop, drop-of-length-le}
 use lib.Seq.{take-all, drop-drop}
 use Rattle.fields.specs.declared.Fields.{Fields}
 use Rattle.fields.specs.Layouts.{objectBytes}
-use Rattle.kinds.specs.declared.Row.{Row}
+use Rattle.kinds.specs.Table.{Entry, rowsOf, entryOf}
 use Rattle.objects.specs.Writing.{writeVerdict, writtenUnit}
 use Rattle.objects.specs.Texts.{textUnit, textVerdict, writtenText}
 use Rattle.octets.specs.Parts.{part, putAt}
 use Rattle.octets.proofs.Parts.{part-is, length-part, put-is, length-put, rest-is}
 use Rattle.octets.proofs.Rows.{no-elements}
-use Rattle.unit.specs.Objects.{objectAt}
+use Rattle.unit.specs.Objects.{typeOf, objectAt}
 use Rattle.unit.specs.Units.{rowOf}
 use Rattle.verdict.specs.declared.Verdict.{Verdict}
 use Rattle.verdict.specs.Orders.{inOrder, good, isGood}
@@ -31,12 +31,15 @@ home o at n v fits e =
     ∙ sym (put-is o at v (omega arith))
 
 -- a written unit and a written text are as long as what was lent
-length-unit : (rs : List Row) (u : List ℕ) (k : ℕ) (f : Fields) (d : List ℕ) → length (writtenUnit rs u k f d) ≡ length u
+length-unit : (es : List Entry) (u : List ℕ) (k : ℕ) (f : Fields) (d : List ℕ) → length (writtenUnit es u k f d) ≡ length u
 unfolding writtenUnit
-length-unit rs u k f d = by-test (isGood (writeVerdict rs u k f d))
+length-unit es u k f d = by-test (isGood (writeVerdict (rowsOf es) u k f d))
   where
-    by-test : (b : Bool) → length (cond b (putAt u (objectAt (rowOf rs u) u k) (objectBytes f d)) u) ≡ length u
-    by-test true = length-put u (objectAt (rowOf rs u) u k) (objectBytes f d)
+    at : ℕ
+    at = objectAt (rowOf (rowsOf es) u) u k
+
+    by-test : (b : Bool) → length (cond b (putAt u at (objectBytes (entryOf es (typeOf u)) f d)) u) ≡ length u
+    by-test true = length-put u at (objectBytes (entryOf es (typeOf u)) f d)
     by-test false = refl
 
 length-text : (out t : List ℕ) → length (writtenText out t) ≡ length out
@@ -47,12 +50,12 @@ length-text out t = by-test (isGood (textVerdict out t))
     by-test true = length-put out 0 (textUnit t)
     by-test false = refl
 
-module _ (rs : List Row) (o : List ℕ) (l k : ℕ) (f : Fields) (d : List ℕ) where
-  pub object-refused : (v : Verdict) → v ≡ inOrder (roomTests o l 27) good → isGood v ≡ false → (v ≡ objectVerdict rs o l k f d) × (o ≡ writtenObject rs o l k f d)
+module _ (es : List Entry) (o : List ℕ) (l k : ℕ) (f : Fields) (d : List ℕ) where
+  pub object-refused : (v : Verdict) → v ≡ inOrder (roomTests o l 27) good → isGood v ≡ false → (v ≡ objectVerdict (rowsOf es) o l k f d) × (o ≡ writtenObject es o l k f d)
   unfolding objectVerdict writtenObject
   object-refused v e b =
       let r = ap isGood (sym e) ∙ b in
-      (e ∙ sym (stays (roomTests o l 27) (writeVerdict rs (part o 27 (27 + l)) k f d) r), simp r)
+      (e ∙ sym (stays (roomTests o l 27) (writeVerdict (rowsOf es) (part o 27 (27 + l)) k f d) r), simp r)
 
   module _ (g : isGood (inOrder (roomTests o l 27) good) ≡ true) where
     fits : 27 + l ≤ length o
@@ -64,17 +67,17 @@ module _ (rs : List Row) (o : List ℕ) (l k : ℕ) (f : Fields) (d : List ℕ) 
     long : length (part o 27 (27 + l)) ≡ 27 + l - 27
     long = length-part o 27 (27 + l) (omega arith) fits
 
-    pub object-verdict : (v : Verdict) → v ≡ writeVerdict rs (take (27 + l - 27) (drop 27 o)) k f d → v ≡ objectVerdict rs o l k f d
+    pub object-verdict : (v : Verdict) → v ≡ writeVerdict (rowsOf es) (take (27 + l - 27) (drop 27 o)) k f d → v ≡ objectVerdict (rowsOf es) o l k f d
     unfolding objectVerdict
     object-verdict v e =
-        e ∙ ap (λ (u : List ℕ). writeVerdict rs u k f d) lent ∙ sym (goes-on (roomTests o l 27) (writeVerdict rs (part o 27 (27 + l)) k f d) refl g)
+        e ∙ ap (λ (u : List ℕ). writeVerdict (rowsOf es) u k f d) lent ∙ sym (goes-on (roomTests o l 27) (writeVerdict (rowsOf es) (part o 27 (27 + l)) k f d) refl g)
 
-    pub object-home : (w : List ℕ) → w ≡ writtenUnit rs (take (27 + l - 27) (drop 27 o)) k f d → take 27 o ++ (w ++ drop (27 + l - 27) (drop 27 o)) ≡ writtenObject rs o l k f d
+    pub object-home : (w : List ℕ) → w ≡ writtenUnit es (take (27 + l - 27) (drop 27 o)) k f d → take 27 o ++ (w ++ drop (27 + l - 27) (drop 27 o)) ≡ writtenObject es o l k f d
     unfolding writtenObject
     object-home w e =
         let u : List ℕ = part o 27 (27 + l) in
-        let there : w ≡ writtenUnit rs u k f d = e ∙ ap (λ (x : List ℕ). writtenUnit rs x k f d) lent in
-        home o 27 (27 + l - 27) w (omega (arith, fits)) (ap length there ∙ length-unit rs u k f d ∙ long)
+        let there : w ≡ writtenUnit es u k f d = e ∙ ap (λ (x : List ℕ). writtenUnit es x k f d) lent in
+        home o 27 (27 + l - 27) w (omega (arith, fits)) (ap length there ∙ length-unit es u k f d ∙ long)
         ∙ ap (putAt o 27) there
         ∙ simp g
 

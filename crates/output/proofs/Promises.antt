@@ -8,6 +8,7 @@ use mathlib.Core.Path.{_≡_, refl, sym, ap, _∙_}
 use borrow.Author.Tests.{le-leb}
 use lib.ListN.{length, take, drop, drop-of-length-le}
 use lib.Seq.{take-at}
+use Rattle.frame.specs.Frame.{unitLength, frameTests}
 use Rattle.kinds.specs.declared.Row.{Row}
 use Rattle.label.specs.Times.{judged, allowed}
 use Rattle.octets.specs.Numbers.{Octets}
@@ -15,7 +16,7 @@ use Rattle.octets.specs.Parts.{part, putAt}
 use Rattle.octets.proofs.Parts.{length-part, put-from}
 use Rattle.packet.specs.declared.Header.{Header}
 use Rattle.packet.specs.declared.Opened.{Opened}
-use Rattle.packet.specs.Frames.{lengthOf, commandOf, unitOf, frameTests, headerTests, judgedContent, judgedPacket}
+use Rattle.packet.specs.Frames.{commandOf, unitOf, headerTests, judgedContent, judgedPacket}
 use Rattle.packet.specs.Headers.{headerOf, openedPacket}
 use Rattle.output.specs.Packets.{packetBytes}
 use Rattle.unit.specs.Units.{isCommand, judgedUnder}
@@ -33,23 +34,23 @@ front o q h = ap (take (length q)) (put-from o 0 q (omega arith)) ∙ take-at q 
 
 module _ (rs : List Row) (p : List ℕ) (bytes : Octets p) (g : isGood (judgedPacket rs p) ≡ true) where
   -- the writer takes an accepted packet's own fields
-  pub again-good : isGood (packetVerdict rs p (headerOf p) (lengthOf p)) ≡ true
+  pub again-good : isGood (packetVerdict rs p (headerOf p) (unitLength p)) ≡ true
   unfolding packetVerdict judgedPacket judgedContent
   again-good =
       let ok = accepted rs p g in
-      let content = good-held (frameTests p) (judgedContent rs p) refl g .1 in
+      let content = good-held (frameTests 1024 p) (judgedContent rs p) refl g .1 in
       let h = good-held (headerTests p) (judgedUnder rs (commandOf p) (unitOf p)) refl content in
       ap isGood
-      (all-passed (roomTests p (lengthOf p) 30) _ (le-leb (lengthOf p) 1024 (ok .few), (le-leb (30 + lengthOf p) (length p) (omega (arith, ok .long)), tt))
+      (all-passed (roomTests p (unitLength p) 30) _ (le-leb (unitLength p) 1024 (ok .frame .few), (le-leb (30 + unitLength p) (length p) (omega (arith, ok .frame .long)), tt))
       ∙ all-passed (fieldTests (headerOf p)) _ (h .0 .1 .0, (h .0 .1 .1 .0, tt)))
       ∙ h .1
 
   -- "An accepted packet, written again from its fields, has the same bytes"
-  pub written-again : writtenPacket rs p (headerOf p) (lengthOf p) ≡ p
+  pub written-again : writtenPacket rs p (headerOf p) (unitLength p) ≡ p
   written-again =
       let same = packet-back p bytes (accepted rs p g) in
       let long : length (packetBytes (headerOf p) (unitOf p)) ≡ length p = ap length same in
-      sym (sealed rs p (headerOf p) (lengthOf p) again-good)
+      sym (sealed rs p (headerOf p) (unitLength p) again-good)
       ∙ ap (putAt p 0) same
       ∙ whole
     where

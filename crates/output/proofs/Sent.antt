@@ -2,13 +2,16 @@
 -- Assumes nothing.
 use Prim.Native.Nat.{ℕ, _+_, _-_, _%_, _≤_, _<_}
 use native.Mathlib.Omega.{arith}
-use mathlib.Core.Bool.{true, and-eq-true-iff}
+use mathlib.Core.Bool.{true}
 use mathlib.Core.List.{List, [], _∷_, _++_, append-assoc}
-use mathlib.Core.Path.{_≡_, refl, sym, ap, subst, _∙_}
-use borrow.Author.Tests.{le-leb, eq-eqb}
+use mathlib.Core.Path.{_≡_, refl, sym, ap, _∙_}
+use borrow.Author.Tests.{eq-eqb}
 use lib.Dec.{eqb}
 use lib.ListN.{length, getD, take, drop, length-append, length-drop}
 use lib.Seq.{take-at, take-append-add, drop-append-le, getD-append-add, drop-at}
+use Rattle.frame.specs.Frame.{packetLength, unitLength, ended, summed, frameTests}
+use Rattle.frame.proofs.Framing.{end-right}
+use Rattle.frame.proofs.Framed.{Framed, framed-held, byte-sum}
 use Rattle.kinds.specs.declared.Row.{Row}
 use Rattle.label.specs.declared.Label.{Label}
 use Rattle.label.specs.Times.{labelOf, labelBytes, judged, allowed}
@@ -18,11 +21,11 @@ use Rattle.octets.specs.Sums.{total}
 use Rattle.octets.proofs.Numbers.{bytes-low}
 use Rattle.octets.proofs.Parts.{part-is}
 use Rattle.packet.specs.declared.Header.{Header}
-use Rattle.packet.specs.Frames.{lengthOf, commandOf, unitOf, sumOf, frameTestsAt, frameTests, headerTests, judgedContent, judgedPacket}
+use Rattle.packet.specs.Frames.{commandOf, unitOf, headerTests, judgedContent, judgedPacket}
 use Rattle.packet.specs.Headers.{headerOf}
 use Rattle.output.specs.Packets.{headBytes, tailBytes, packetBytes}
 use Rattle.unit.specs.Units.{isCommand, judgedUnder}
-use Rattle.verdict.specs.Orders.{Held, inOrder}
+use Rattle.verdict.specs.Orders.{inOrder}
 use Rattle.verdict.proofs.Order.{all-passed}
 use Rattle.output.proofs.Filling.{head-is, head-long, six}
 
@@ -61,9 +64,9 @@ module _ (h : Header) (u : List ℕ) (fit : Fitting h) (few : length u ≤ 1024)
   q-is' = refl
 
   -- L reads back
-  pub length-sent : lengthOf (packetBytes h u) ≡ length u
-  unfolding spelt bytesOf
-  length-sent = ap lengthOf q-is ∙ bytes-low 2 (length u) (omega arith)
+  pub length-sent : unitLength (packetBytes h u) ≡ length u
+  unfolding spelt bytesOf unitLength
+  length-sent = ap unitLength q-is ∙ bytes-low 2 (length u) (omega arith)
 
   -- and every other field of the header
   pub header-sent : headerOf (packetBytes h u) ≡ h
@@ -111,31 +114,21 @@ module _ (h : Header) (u : List ℕ) (fit : Fitting h) (few : length u ≤ 1024)
       ∙ ap (λ (x : List ℕ). drop 2 hd ++ x) (take-at u t (length u) refl)
 
   -- the frame is good
-  framed : Held (frameTestsAt (packetBytes h u) (length u))
+  framed : Framed 1024 (packetBytes h u)
   unfolding t spelt
   framed =
-      let p : List ℕ = packetBytes h u in (
-        le-leb 30 (length p) (omega (arith, sent-long)),
-        (
-          and-eq-true-iff _ _ .1 (eq-eqb (getD p 0 0) 64 (ap (λ (x : List ℕ). getD x 0 0) q-is), eq-eqb (getD p 1 0) 64 (ap (λ (x : List ℕ). getD x 1 0) q-is)),
-          (
-            le-leb (length u) 1024 few,
-            (
-              eq-eqb (length p) (30 + length u) sent-long,
-              (
-                and-eq-true-iff _ _ .1 (eq-eqb (getD p (28 + length u) 0) 35 (after 1 (28 + length u) (omega arith)), eq-eqb (getD p (29 + length u) 0) 35 (after 2 (29 + length u) (omega arith))),
-                (
-                  eq-eqb (getD p (27 + length u) 0) (sumOf p (length u)) (after 0 (27 + length u) (omega arith) ∙ ap (λ (x : List ℕ). total x % 256) (sym sealed)),
-                  tt,
-                ),
-              ),
-            ),
-          ),
-        ),
-      )
-
-  pub frame-sent : Held (frameTests (packetBytes h u))
-  frame-sent = subst (λ (n : ℕ). Held (frameTestsAt (packetBytes h u) n)) (sym length-sent) framed
+      let p : List ℕ = packetBytes h u in
+      let l : ℕ = length u in
+      let end = end-right l p (after 1 (28 + l) (omega arith)) (after 2 (29 + l) (omega arith)) in
+      let sum = byte-sum l p (ap (λ (x : List ℕ). total x % 256) sealed ∙ sym (after 0 (27 + l) (omega arith))) in
+      record {
+        first = ap (λ (x : List ℕ). getD x 0 0) q-is;
+        second = ap (λ (x : List ℕ). getD x 1 0) q-is;
+        few = omega (arith, length-sent);
+        long = sent-long ∙ ap packetLength (sym length-sent);
+        ends = ap (λ (n : ℕ). ended n p) length-sent ∙ end;
+        sums = ap (λ (n : ℕ). summed n p) length-sent ∙ sum;
+      }
 
   -- the unit reads back
   pub unit-sent : unitOf (packetBytes h u) ≡ u
@@ -156,7 +149,7 @@ module _ (h : Header) (u : List ℕ) (fit : Fitting h) (few : length u ≤ 1024)
       let command : commandOf p ≡ h .command = ap (λ (x : Header). x .command) header-sent in
       let label : labelOf (drop 6 p) ≡ h .label = ap (λ (x : Header). x .label) header-sent in
       let version : eqb (getD p 4 0) 1 ≡ true = eq-eqb (getD p 4 0) 1 (ap (λ (x : List ℕ). getD x 4 0) q-is) in
-      all-passed (frameTests p) (inOrder (headerTests p) (judgedUnder rs (commandOf p) (unitOf p))) frame-sent
+      all-passed (frameTests 1024 p) (inOrder (headerTests p) (judgedUnder rs (commandOf p) (unitOf p))) (framed-held 1024 p framed)
       ∙ all-passed (headerTests p) (judgedUnder rs (commandOf p) (unitOf p))
       (version, (ap isCommand command ∙ c, (ap (λ (x : Label). allowed (judged x)) label ∙ a, tt)))
       ∙ ap (λ (x : ℕ). judgedUnder rs x (unitOf p)) command

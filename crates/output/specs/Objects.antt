@@ -6,6 +6,7 @@ use mathlib.Core.List.{List, _++_}
 use lib.ListN.{take, drop}
 use Rattle.fields.specs.declared.Fields.{Fields}
 use Rattle.kinds.specs.declared.Row.{Row}
+use Rattle.kinds.specs.Table.{Entry}
 use Rattle.objects.specs.Writing.{writeVerdict, writtenUnit}
 use Rattle.objects.specs.Texts.{textVerdict, writtenText}
 use Rattle.octets.specs.Parts.{part, putAt}
@@ -17,9 +18,9 @@ use Rattle.output.specs.Writing.{roomTests}
 unfoldable pub objectVerdict : List Row → List ℕ → ℕ → ℕ → Fields → List ℕ → Verdict
 objectVerdict rs out l k f d = inOrder (roomTests out l 27) (writeVerdict rs (part out 27 (27 + l)) k f d)
 
-unfoldable pub writtenObject : List Row → List ℕ → ℕ → ℕ → Fields → List ℕ → List ℕ
-writtenObject rs out l k f d =
-    cond (isGood (inOrder (roomTests out l 27) good)) (putAt out 27 (writtenUnit rs (part out 27 (27 + l)) k f d)) out
+unfoldable pub writtenObject : List Entry → List ℕ → ℕ → ℕ → Fields → List ℕ → List ℕ
+writtenObject es out l k f d =
+    cond (isGood (inOrder (roomTests out l 27) good)) (putAt out 27 (writtenUnit es (part out 27 (27 + l)) k f d)) out
 
 -- the type 26 writer has all from byte 28 on
 abbrev pub outputTextVerdict : List ℕ → List ℕ → Verdict

@@ -1,7 +1,7 @@
 // The packet writer, and objects written into a packet's output.
 ghost use mathlib.Core.Path.{_≡_};
 ghost use Prim.Native.Nat.{_+_, _≤_};
-ghost use Rattle.kinds.specs.Table.{rows};
+ghost use Rattle.kinds.specs.Table.{table, rows};
 ghost use Rattle.octets.specs.Parts.{part, putAt};
 ghost use Rattle.output.specs.Packets.{headBytes, packetBytes};
 ghost use Rattle.verdict.specs.Orders.{inOrder, good};
@@ -121,7 +121,7 @@ pub fn write_object(
     description: &[u8],
 ) -> Verdict
     ensures { λ r. ⌜ r ≡ objectVerdict rows (now (out .entry)) length number fields (now (description .entry)) ⌝ }
-    ensures { λ r. ⌜ now (out .exit) ≡ writtenObject rows (now (out .entry)) length number fields (now (description .entry)) ⌝ }
+    ensures { λ r. ⌜ now (out .exit) ≡ writtenObject table (now (out .entry)) length number fields (now (description .entry)) ⌝ }
 {
     let v = judge_room(out, length, 27);
     if !v.is_good() {

@@ -1,4 +1,4 @@
--- Answers as C sees them: an event, a reply's command and an object's fields as numbers.
+-- Answers as C sees them: an event and a reply's command as numbers.
 -- Assumes nothing.
 use Prim.Native.Nat.{ℕ}
 use Rattle.reading.specs.declared.Told.{Told}
@@ -6,11 +6,8 @@ use Rattle.reading.specs.Values.{told}
 use Rattle.receiver.specs.declared.Served.{Served}
 use Rattle.reply.specs.declared.Answer.{Answer}
 use Rattle.reply.specs.Replies.{commandFor}
-use Rattle.objects.specs.declared.Typed.{Typed}
-use Rattle.flat.specs.Flats.{flatOf}
 use Rattle.trawnosz.specs.declared.ServedC.{ServedC}
 use Rattle.trawnosz.specs.declared.AnswerC.{AnswerC}
-use Rattle.trawnosz.specs.declared.TypedC.{TypedC}
 
 -- "PACKET gives the packet's length": an event as its number and that length
 abbrev pub servedTo : Served → ServedC
@@ -27,6 +24,3 @@ servedTo s =
 -- a reply as its command, 0 where nothing was written
 abbrev pub answerTo : Answer → AnswerC
 answerTo a = record { verdict = a .verdict; command = commandFor (a .due) }
-
-abbrev pub typedTo : Typed → TypedC
-typedTo t = record { verdict = t .verdict; fields = flatOf (t .fields) }

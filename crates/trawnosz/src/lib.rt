@@ -1,10 +1,10 @@
 // The calls that a C program links; include/trawnosz.h declares them.
 ghost use mathlib.Core.Path.{_≡_};
-ghost use Rattle.kinds.specs.Table.{rows};
+ghost use Rattle.kinds.specs.Table.{table, rows};
 ghost use Rattle.unit.specs.Units.{judgedUnit, judgedUnder};
 ghost use Rattle.unit.specs.Places.{objectPlace};
 ghost use Rattle.unit.specs.declared.Carrier.the-variants.{Any};
-ghost use Rattle.objects.specs.Reading.{typedObject, descriptionPlace};
+ghost use Rattle.typed.specs.Typing.{typedObject, descriptionPlace};
 ghost use Rattle.objects.specs.Writing.{writeVerdict, writtenUnit};
 ghost use Rattle.objects.specs.Texts.{textVerdict, writtenText};
 ghost use Rattle.packet.specs.Frames.{judgedPacket, unitPlace};
@@ -17,9 +17,8 @@ ghost use Rattle.receiver.specs.Receivers.{lent, servedOf};
 ghost use Rattle.devices.specs.Tables.{ofSystems, ofParts, judgement, foundPlace, keyBytes};
 ghost use Rattle.exchange.specs.declared.Told.the-variants.{Send, Request};
 ghost use Rattle.place.specs.declared.Reply.the-variants.{Confirm, Answer, Deny, BadAnswer};
-ghost use Rattle.flat.specs.Flats.{fieldsFrom};
 ghost use Rattle.exchange.specs.Table as exchanges;
-ghost use Rattle.trawnosz.specs.Calls.{servedTo, answerTo, typedTo};
+ghost use Rattle.trawnosz.specs.Calls.{servedTo, answerTo};
 use devices::Judgement;
 use devices::PartKey;
 use exchange::Begun;
@@ -28,11 +27,12 @@ use exchange::Made;
 use exchange::Replied;
 use exchange::Ticked;
 use exchange::Told;
-use flat::Flat;
+use fields::Fields;
 use label::Label;
 use packet::Header;
 use packet::Opened;
 use place::Reply;
+use typed::Typed;
 use verdict::Part;
 use verdict::Verdict;
 
@@ -52,13 +52,6 @@ pub struct ServedC {
 pub struct AnswerC {
     pub verdict: Verdict,
     pub command: u8,
-}
-
-// An object's fields with the verdict.
-#[repr(C)]
-pub struct TypedC {
-    pub verdict: Verdict,
-    pub fields: Flat,
 }
 
 #[no_mangle]
@@ -127,13 +120,13 @@ pub extern "C" fn trawnosz_write_packet_object(
     out: &mut [u8],
     length: usize,
     number: usize,
-    fields: Flat,
+    fields: Fields,
     description: &[u8],
 ) -> Verdict
-    ensures { λ r. ⌜ r ≡ objectVerdict rows (now (out .entry)) length number (fieldsFrom fields) (now (description .entry)) ⌝ }
-    ensures { λ r. ⌜ now (out .exit) ≡ writtenObject rows (now (out .entry)) length number (fieldsFrom fields) (now (description .entry)) ⌝ }
+    ensures { λ r. ⌜ r ≡ objectVerdict rows (now (out .entry)) length number fields (now (description .entry)) ⌝ }
+    ensures { λ r. ⌜ now (out .exit) ≡ writtenObject table (now (out .entry)) length number fields (now (description .entry)) ⌝ }
 {
-    output::write_object(out, length, number, flat::fields_from(fields), description)
+    output::write_object(out, length, number, fields, description)
 }
 
 #[no_mangle]
@@ -180,36 +173,30 @@ pub extern "C" fn trawnosz_object_place(u: &[u8], number: usize) -> Part
 }
 
 #[no_mangle]
-pub extern "C" fn trawnosz_read_object(u: &[u8], number: usize) -> TypedC
-    ensures { λ r. ⌜ r ≡ typedTo (typedObject rows (now (u .entry)) number) ⌝ }
+pub extern "C" fn trawnosz_read_object(u: &[u8], number: usize) -> Typed
+    ensures { λ r. ⌜ r ≡ typedObject table (now (u .entry)) number ⌝ }
 {
-    let t = objects::read(u, number);
-    let verdict = t.verdict;
-    let fields = t.fields;
-    TypedC {
-        verdict,
-        fields: flat::flat_of(fields),
-    }
+    typed::read(u, number)
 }
 
 #[no_mangle]
 pub extern "C" fn trawnosz_description_place(u: &[u8], number: usize) -> Part
     ensures { λ r. ⌜ r ≡ descriptionPlace rows (now (u .entry)) number ⌝ }
 {
-    objects::description_place(u, number)
+    typed::description_place(u, number)
 }
 
 #[no_mangle]
 pub extern "C" fn trawnosz_write_object(
     u: &mut [u8],
     number: usize,
-    fields: Flat,
+    fields: Fields,
     description: &[u8],
 ) -> Verdict
-    ensures { λ r. ⌜ r ≡ writeVerdict rows (now (u .entry)) number (fieldsFrom fields) (now (description .entry)) ⌝ }
-    ensures { λ r. ⌜ now (u .exit) ≡ writtenUnit rows (now (u .entry)) number (fieldsFrom fields) (now (description .entry)) ⌝ }
+    ensures { λ r. ⌜ r ≡ writeVerdict rows (now (u .entry)) number fields (now (description .entry)) ⌝ }
+    ensures { λ r. ⌜ now (u .exit) ≡ writtenUnit table (now (u .entry)) number fields (now (description .entry)) ⌝ }
 {
-    objects::write(u, number, flat::fields_from(fields), description)
+    objects::write(u, number, fields, description)
 }
 
 #[no_mangle]

@@ -1,7 +1,7 @@
 -- `output::write_object` meets its contract: the room, then what the object writer says of the part that is lent. Assumes nothing.
 use native.Mathlib.Omega.{arith}
 use mathlib.Core.Path.{sym, ap, _∙_}
-use Rattle.kinds.specs.Table.{rows}
+use Rattle.kinds.specs.Table.{table}
 use Rattle.octets.proofs.Flags.{on, off}
 use Rattle.verdict.specs.Orders.{isGood}
 use Rattle.output.proofs.Judging.{roomy}
@@ -12,7 +12,7 @@ use Rattle.output.proofs.write_object.Tie as tie
 
 returns : tie.Need-returns
 returns c =
-    let r = object-refused rows (c .before .before .before .before .before .before .args .out .now) (c .before .before .before .before .before .before .args .length) (c .before .before .before .before .before .before .args .number) (c .before .before .before .before .before .before .args .fields) (c .before .before .before .before .before .before .args .description .now) (c .before .before .judge-room .result) (c .before .before .judge-room .ensures) (off (c .before .is-good .ensures) (c .if1 .taken)) in
+    let r = object-refused table (c .before .before .before .before .before .before .args .out .now) (c .before .before .before .before .before .before .args .length) (c .before .before .before .before .before .before .args .number) (c .before .before .before .before .before .before .args .fields) (c .before .before .before .before .before .before .args .description .now) (c .before .before .judge-room .result) (c .before .before .judge-room .ensures) (off (c .before .is-good .ensures) (c .if1 .taken)) in
     (r .0, r .1)
 
 add-end : tie.Need-add-end
@@ -22,7 +22,7 @@ part-write-end : tie.Need-part-write-end
 part-write-end c = omega (arith, roomy (c .before .before .before .before .before .before .args .out .now) (c .before .before .before .before .before .before .args .length) 27 (ap isGood (sym (c .before .before .judge-room .ensures)) ∙ on (c .before .is-good .ensures) (c .if1 .left)) .1)
 
 returns-2 : tie.Need-returns-2
-returns-2 c = (object-verdict rows (c .before .before .before .before .before .before .before .before .before .before .args .out .now) (c .before .before .before .before .before .before .before .before .before .before .args .length) (c .before .before .before .before .before .before .before .before .before .before .args .number) (c .before .before .before .before .before .before .before .before .before .before .args .fields) (c .before .before .before .before .before .before .before .before .before .before .args .description .now) (ap isGood (sym (c .before .before .before .before .before .before .judge-room .ensures)) ∙ on (c .before .before .before .before .before .is-good .ensures) (c .before .before .before .before .if1 .left)) (c .before .before .write .result) (c .before .before .write .ensures .0), object-home rows (c .before .before .before .before .before .before .before .before .before .before .args .out .now) (c .before .before .before .before .before .before .before .before .before .before .args .length) (c .before .before .before .before .before .before .before .before .before .before .args .number) (c .before .before .before .before .before .before .before .before .before .before .args .fields) (c .before .before .before .before .before .before .before .before .before .before .args .description .now) (ap isGood (sym (c .before .before .before .before .before .before .judge-room .ensures)) ∙ on (c .before .before .before .before .before .is-good .ensures) (c .before .before .before .before .if1 .left)) (c .before .before .write .last .0) (c .before .before .write .ensures .1))
+returns-2 c = (object-verdict table (c .before .before .before .before .before .before .before .before .before .before .args .out .now) (c .before .before .before .before .before .before .before .before .before .before .args .length) (c .before .before .before .before .before .before .before .before .before .before .args .number) (c .before .before .before .before .before .before .before .before .before .before .args .fields) (c .before .before .before .before .before .before .before .before .before .before .args .description .now) (ap isGood (sym (c .before .before .before .before .before .before .judge-room .ensures)) ∙ on (c .before .before .before .before .before .is-good .ensures) (c .before .before .before .before .if1 .left)) (c .before .before .write .result) (c .before .before .write .ensures .0), object-home table (c .before .before .before .before .before .before .before .before .before .before .args .out .now) (c .before .before .before .before .before .before .before .before .before .before .args .length) (c .before .before .before .before .before .before .before .before .before .before .args .number) (c .before .before .before .before .before .before .before .before .before .before .args .fields) (c .before .before .before .before .before .before .before .before .before .before .args .description .now) (ap isGood (sym (c .before .before .before .before .before .before .judge-room .ensures)) ∙ on (c .before .before .before .before .before .is-good .ensures) (c .before .before .before .before .if1 .left)) (c .before .before .write .last .0) (c .before .before .write .ensures .1))
 
 pub write-object-spec : {M : Type 1} → statement M
 write-object-spec =
