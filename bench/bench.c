@@ -51,7 +51,7 @@ size_t make_unit(uint8_t *unit, uint8_t type, uint8_t n, size_t size)
     unit[0] = type;
     unit[1] = n;
     for (uint8_t i = 0; i < n; i++) {
-        trawnosz_fields fields = {.kind = type, .system = 1, .address = i, .part = 40, .place = i * 1000u, .value = -3,
+        trawnosz_fields fields = {.kind = type, .system = 1, .address = i, .part = 40, .part_address = i * 1000u, .value = -3,
                                   .low = 2, .high = 255, .analogue = 3, .operation = 1, .operator_ = 7, .state = 1,
                                   .main = 1, .minor = 2, .label = sample_label};
         agree(!twin_write_object(unit, length, i, &fields, text, described ? sizeof text : 0).number);

@@ -35,7 +35,8 @@ static void judge(const char *name, size_t length)
 
 static void find(const char *name, size_t length, const uint8_t *seven)
 {
-    trawnosz_key key = {seven[0], seven[1], seven[2], seven[3], seven[4], seven[5], seven[6]};
+    uint32_t at = seven[3] | (uint32_t)seven[4] << 8 | (uint32_t)seven[5] << 16 | (uint32_t)seven[6] << 24;
+    trawnosz_key key = {.system = seven[0], .address = seven[1], .part = seven[2], .part_address = at};
     unsigned number = row(name, length, NOT_ABOVE_TWIN);
     trawnosz_part ours, plain;
     MEASURE(REGION(number, OURS), ours = trawnosz_find_place(table, length, key));

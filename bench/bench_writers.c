@@ -19,7 +19,7 @@ static size_t units(size_t at, uint8_t type, uint8_t n, size_t size)
 
 static trawnosz_fields fields_of(uint8_t type)
 {
-    trawnosz_fields fields = {.kind = type, .system = 9, .address = 8, .part = 41, .place = 0x01020304, .value = -300,
+    trawnosz_fields fields = {.kind = type, .system = 9, .address = 8, .part = 41, .part_address = 0x01020304, .value = -300,
                               .low = 1, .high = 128, .analogue = 2, .operation = 3, .operator_ = 4, .state = 255,
                               .main = 5, .minor = 6, .label = {59, 58, 23, 31, 12, 99}};
     return fields;

@@ -40,9 +40,10 @@ static void print_bytes(const char *what, const uint8_t *bytes, size_t n)
 /* Tells the part that an object of type 2 speaks of; its seven bytes stand at the object's front. */
 static void print_part(const uint8_t *object)
 {
-    trawnosz_key key = {object[0], object[1], object[2], object[3], object[4], object[5], object[6]};
+    uint32_t at = object[3] | (uint32_t)object[4] << 8 | (uint32_t)object[5] << 16 | (uint32_t)object[6] << 24;
+    trawnosz_key key = {.system = object[0], .address = object[1], .part = object[2], .part_address = at};
     trawnosz_part found = trawnosz_find_place((const uint8_t *)devices, sizeof devices - 1, key);
-    printf("  state %02X %02X of part %u.%u.%u: ", object[7], object[8], key.system, key.address, key.kind);
+    printf("  state %02X %02X of part %u.%u.%u: ", object[7], object[8], key.system, key.address, key.part);
     while (found.to > found.from && devices[found.to - 1] == ' ')
         found.to--;
     if (found.verdict.number)

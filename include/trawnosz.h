@@ -158,14 +158,14 @@ typedef struct trawnosz_opened {
 
 /*
  * The fields of an object of any type, `kind` being the type; each type has the members that its line names:
- *   1 system address low high label                  25 main minor
- *   2 system address part place low high label       26 (none: its text is a part)
- *   3 system address part place analogue value label 28 label
- *   4 system address operation operator_ label       61 system address
- *   7 system address part place                      62 system address place
- *   8 system address label                           90 label
- *   21 state label                                   24 operation operator_ label
- * A reader leaves all others 0; a writer does not look at them. `place` is the part address, low byte first in the object;
+ *   1  system address low high label                             25 main minor
+ *   2  system address part part_address low high label           26 (none: its text is a part)
+ *   3  system address part part_address analogue value label     28 label
+ *   4  system address operation operator_ label                  61 system address
+ *   7  system address part part_address                          62 system address part_address
+ *   8  system address label                                      90 label
+ *   21 state label                                               24 operation operator_ label
+ * A reader leaves all others 0; a writer does not look at them. `part_address` is a number, low byte first in the object;
  * `low` and `high` are the two bytes of a state as they stand.
  */
 typedef struct trawnosz_fields {
@@ -173,7 +173,7 @@ typedef struct trawnosz_fields {
     uint8_t system;
     uint8_t address;
     uint8_t part;
-    uint32_t place;
+    uint32_t part_address;
     int16_t value;
     uint8_t low;
     uint8_t high;
@@ -263,15 +263,12 @@ typedef struct trawnosz_table {
     size_t parts;
 } trawnosz_table;
 
-/* The seven bytes by which a part is found: its system's type and address, its own type, the four bytes of its address. */
+/* What a part is found by: its system's type and address, its own type and address. */
 typedef struct trawnosz_key {
     uint8_t system;
     uint8_t address;
-    uint8_t kind;
-    uint8_t first;
-    uint8_t second;
-    uint8_t third;
-    uint8_t fourth;
+    uint8_t part;
+    uint32_t part_address;
 } trawnosz_key;
 
 /* ---- The receiver: the hold, `held` and `count` are its state, of which the caller keeps all three. ---- */

@@ -25,7 +25,8 @@ struct ind_span both_find_place(struct trial *t, const uint8_t *table, size_t si
     with_bytes("table", table, size);
     with_bytes("key", key, 7);
     struct ind_span mine = ind_find_part(table, size, key);
-    trawnosz_key their_key = {key[0], key[1], key[2], key[3], key[4], key[5], key[6]};
+    uint32_t at = key[3] | (uint32_t)key[4] << 8 | (uint32_t)key[5] << 16 | (uint32_t)key[6] << 24;
+    trawnosz_key their_key = {.system = key[0], .address = key[1], .part = key[2], .part_address = at};
     agree_part(t, mine, trawnosz_find_place(lend(t, LENT_INPUT, table, size), size, their_key));
     check_lent(t, LENT_INPUT, "table", table);
     return mine;

@@ -57,7 +57,7 @@ static void tell_fields(struct answer *answer, const trawnosz_fields *fields)
     tell(answer, "system", fields->system);
     tell(answer, "address", fields->address);
     tell(answer, "part", fields->part);
-    tell(answer, "place", fields->place);
+    tell(answer, "place", fields->part_address);
     tell(answer, "value", (uint16_t)fields->value);
     tell(answer, "low", fields->low);
     tell(answer, "high", fields->high);

@@ -30,7 +30,7 @@ trawnosz_fields their_fields(const struct ind_object *object)
         .system = (uint8_t)number[IND_SYSTEM],
         .address = (uint8_t)number[IND_ADDRESS],
         .part = (uint8_t)number[IND_PART],
-        .place = number[IND_PLACE],
+        .part_address = number[IND_PLACE],
         .value = (int16_t)(uint16_t)number[IND_VALUE],
         .low = (uint8_t)number[IND_LOW],
         .high = (uint8_t)number[IND_HIGH],
