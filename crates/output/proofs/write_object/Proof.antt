@@ -12,17 +12,41 @@ use Rattle.output.proofs.write_object.Tie as tie
 
 returns : tie.Need-returns
 returns c =
-    let r = object-refused table (c .before .before .before .before .before .before .args .out .now) (c .before .before .before .before .before .before .args .length) (c .before .before .before .before .before .before .args .number) (c .before .before .before .before .before .before .args .fields) (c .before .before .before .before .before .before .args .description .now) (c .before .before .judge-room .result) (c .before .before .judge-room .ensures) (off (c .before .is-good .ensures) (c .if1 .taken)) in
+    let judge-room = c .before .before .judge-room in
+    let args = c .before .before .before .before .before .before .args in
+    let r = object-refused table (args .out .now) (args .length) (args .number) (args .fields) (args .description .now)
+    (judge-room .result) (judge-room .ensures) (off (c .before .is-good .ensures) (c .if1 .taken)) in
     (r .0, r .1)
 
 add-end : tie.Need-add-end
-add-end c = omega (arith, roomy (c .before .before .before .before .before .before .args .out .now) (c .before .before .before .before .before .before .args .length) 27 (ap isGood (sym (c .before .before .judge-room .ensures)) ∙ on (c .before .is-good .ensures) (c .if1 .left)) .0)
+add-end c =
+    let judge-room = c .before .before .judge-room in
+    let args = c .before .before .before .before .before .before .args in
+    omega (
+      arith,
+      roomy (args .out .now) (args .length) 27 (ap isGood (sym (judge-room .ensures)) ∙ on (c .before .is-good .ensures) (c .if1 .left)) .0,
+    )
 
 part-write-end : tie.Need-part-write-end
-part-write-end c = omega (arith, roomy (c .before .before .before .before .before .before .args .out .now) (c .before .before .before .before .before .before .args .length) 27 (ap isGood (sym (c .before .before .judge-room .ensures)) ∙ on (c .before .is-good .ensures) (c .if1 .left)) .1)
+part-write-end c =
+    let judge-room = c .before .before .judge-room in
+    let args = c .before .before .before .before .before .before .args in
+    omega (
+      arith,
+      roomy (args .out .now) (args .length) 27 (ap isGood (sym (judge-room .ensures)) ∙ on (c .before .is-good .ensures) (c .if1 .left)) .1,
+    )
 
 returns-2 : tie.Need-returns-2
-returns-2 c = (object-verdict table (c .before .before .before .before .before .before .before .before .before .before .args .out .now) (c .before .before .before .before .before .before .before .before .before .before .args .length) (c .before .before .before .before .before .before .before .before .before .before .args .number) (c .before .before .before .before .before .before .before .before .before .before .args .fields) (c .before .before .before .before .before .before .before .before .before .before .args .description .now) (ap isGood (sym (c .before .before .before .before .before .before .judge-room .ensures)) ∙ on (c .before .before .before .before .before .is-good .ensures) (c .before .before .before .before .if1 .left)) (c .before .before .write .result) (c .before .before .write .ensures .0), object-home table (c .before .before .before .before .before .before .before .before .before .before .args .out .now) (c .before .before .before .before .before .before .before .before .before .before .args .length) (c .before .before .before .before .before .before .before .before .before .before .args .number) (c .before .before .before .before .before .before .before .before .before .before .args .fields) (c .before .before .before .before .before .before .before .before .before .before .args .description .now) (ap isGood (sym (c .before .before .before .before .before .before .judge-room .ensures)) ∙ on (c .before .before .before .before .before .is-good .ensures) (c .before .before .before .before .if1 .left)) (c .before .before .write .last .0) (c .before .before .write .ensures .1))
+returns-2 c =
+    let write = c .before .before .write in
+    let if1 = c .before .before .before .before .if1 in  -- !v.is_good()
+    let is-good = c .before .before .before .before .before .is-good in
+    let at-judge-room = c .before .before .before .before .before .before in
+    let judge-room = at-judge-room .judge-room in
+    let args = at-judge-room .before .before .before .before .args in (
+      object-verdict table (args .out .now) (args .length) (args .number) (args .fields) (args .description .now) (ap isGood (sym (judge-room .ensures)) ∙ on (is-good .ensures) (if1 .left)) (write .result) (write .ensures .0),
+      object-home table (args .out .now) (args .length) (args .number) (args .fields) (args .description .now) (ap isGood (sym (judge-room .ensures)) ∙ on (is-good .ensures) (if1 .left)) (write .last .0) (write .ensures .1),
+    )
 
 pub write-object-spec : {M : Type 1} → statement M
 write-object-spec =
