@@ -108,5 +108,8 @@ checked =
     ∷ []
 
 pub checked-so : map (λ (e : List ℕ × List ℕ). e .0) checked ≡ map (λ (e : List ℕ × List ℕ). e .1) checked
-unfolding judgedPacket judgedContent judgedUnder judgedUnit inOrder rowsOf table findRow textSize endOf walk timely judged inRanges firstFit anyFits lowFirst part total called answerBy sound every padTo first foundIn more noise hit onward stands started judgedFrame summed ended unitLength whenThere room told packetOf made found begun ticking legal lowestFree isOpenAs twice allKeep serialFor swept isOpen isZero holds keeps denied ticked
+unfolding judgedPacket judgedContent judgedUnder judgedUnit inOrder rowsOf table findRow textSize endOf walk timely judged
+    inRanges firstFit anyFits lowFirst part total called answerBy sound every padTo first foundIn more noise hit onward stands
+    started judgedFrame summed ended unitLength whenThere room told packetOf made found begun ticking legal lowestFree isOpenAs
+    twice allKeep serialFor swept isOpen isZero holds keeps denied ticked
 checked-so = refl

@@ -43,9 +43,12 @@ returns-2 c =
     let is-good = c .before .before .before .before .before .is-good in
     let at-judge-room = c .before .before .before .before .before .before in
     let judge-room = at-judge-room .judge-room in
-    let args = at-judge-room .before .before .before .before .args in (
-      object-verdict table (args .out .now) (args .length) (args .number) (args .fields) (args .description .now) (ap isGood (sym (judge-room .ensures)) ∙ on (is-good .ensures) (if1 .left)) (write .result) (write .ensures .0),
-      object-home table (args .out .now) (args .length) (args .number) (args .fields) (args .description .now) (ap isGood (sym (judge-room .ensures)) ∙ on (is-good .ensures) (if1 .left)) (write .last .0) (write .ensures .1),
+    let args = at-judge-room .before .before .before .before .args in
+    let out = args .out .now in
+    let description = args .description .now in
+    let room = ap isGood (sym (judge-room .ensures)) ∙ on (is-good .ensures) (if1 .left) in (
+      object-verdict table out (args .length) (args .number) (args .fields) description room (write .result) (write .ensures .0),
+      object-home table out (args .length) (args .number) (args .fields) description room (write .last .0) (write .ensures .1),
     )
 
 pub write-object-spec : {M : Type 1} → statement M

@@ -7,10 +7,22 @@ use Rattle.packet.proofs.read.Statement.{statement}
 use Rattle.packet.proofs.read.Tie as tie
 
 returns : tie.Need-returns
-returns c = not-opened rows (c .before .before .before .before .before .args .p .now) (c .before .before .before .judge .result) (c .before .before .before .judge .ensures) (c .no-header .result) (off (c .before .before .is-good .ensures) (c .before .if1 .taken)) (c .no-header .ensures)
+returns c =
+    let is-good = c .before .before .is-good in
+    let judge = c .before .before .before .judge in
+    let args = c .before .before .before .before .before .args in
+    not-opened rows (args .p .now) (judge .result) (judge .ensures) (c .no-header .result) (off (is-good .ensures) (c .before .if1 .taken))
+    (c .no-header .ensures)
 
 returns-2 : tie.Need-returns-2
-returns-2 c = opened rows (c .before .before .before .before .before .before .args .p .now) (c .before .before .before .before .judge .result) (c .before .before .before .before .judge .ensures) (c .before .header-of .result) (c .unit-length .result) (on (c .before .before .before .is-good .ensures) (c .before .before .if1 .left)) (c .before .header-of .ensures) (c .unit-length .ensures .0)
+returns-2 c =
+    let header-of = c .before .header-of in
+    let if1 = c .before .before .if1 in  -- !verdict.is_good()
+    let is-good = c .before .before .before .is-good in
+    let judge = c .before .before .before .before .judge in
+    let args = c .before .before .before .before .before .before .args in
+    opened rows (args .p .now) (judge .result) (judge .ensures) (header-of .result) (c .unit-length .result)
+    (on (is-good .ensures) (if1 .left)) (header-of .ensures) (c .unit-length .ensures .0)
 
 pub read-spec : {M : Type 1} → statement M
 read-spec =

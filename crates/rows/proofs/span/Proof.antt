@@ -15,26 +15,32 @@ use Rattle.rows.proofs.span.Tie as tie
 returns : tie.Need-returns
 unfolding spanPlace
 returns c =
-    let s = c .before .before .args .s .now in
-    (sym (ap (take (c .before .before .args .count)) (drop-of-length-le s (le-of-lt (c .before .if1 .taken))) ∙ take-nil (c .before .before .args .count)), simp (lt-leb (c .before .before .args .from) (length s) (c .before .if1 .taken)))
+    let if1 = c .before .if1 in  -- s.len() < from
+    let args = c .before .before .args in
+    let s = args .s .now in (
+      sym (ap (take (args .count)) (drop-of-length-le s (le-of-lt (if1 .taken))) ∙ take-nil (args .count)),
+      simp (lt-leb (args .from) (length s) (if1 .taken)),
+    )
 
 returns-2 : tie.Need-returns-2
 unfolding spanPlace
 returns-2 c =
-    let s = c .before .before .before .args .s .now in
-    let there : c .before .before .before .args .from ≤ length s = omega arith in (
-      rest-is s (c .before .before .before .args .from)
-          ∙ sym (take-all (c .before .before .before .args .count) (drop (c .before .before .before .args .from) s) (omega (arith, length-drop (c .before .before .before .args .from) s))),
-      simp (le-leb (c .before .before .before .args .from) (length s) there),
+    let args = c .before .before .before .args in
+    let s = args .s .now in
+    let there : args .from ≤ length s = omega arith in (
+      rest-is s (args .from)
+          ∙ sym (take-all (args .count) (drop (args .from) s) (omega (arith, length-drop (args .from) s))),
+      simp (le-leb (args .from) (length s) there),
     )
 
 returns-3 : tie.Need-returns-3
 unfolding spanPlace
 returns-3 c =
-    let s = c .before .before .before .args .s .now in
-    let there : c .before .before .before .args .from ≤ length s = omega arith in
-    let few : c .before .before .before .args .from + c .before .before .before .args .count - c .before .before .before .args .from ≡ c .before .before .before .args .count = omega arith in
-    (ap (λ (n : ℕ). take n (drop (c .before .before .before .args .from) s)) few, simp (le-leb (c .before .before .before .args .from) (length s) there))
+    let args = c .before .before .before .args in
+    let s = args .s .now in
+    let there : args .from ≤ length s = omega arith in
+    let few : args .from + args .count - args .from ≡ args .count = omega arith in
+    (ap (λ (n : ℕ). take n (drop (args .from) s)) few, simp (le-leb (args .from) (length s) there))
 
 pub span-spec : {M : Type 1} → statement M
 span-spec =

@@ -9,17 +9,30 @@ use Rattle.receiver.proofs.find.sum_of.Statement.{statement}
 use Rattle.receiver.proofs.find.sum_of.Tie as tie
 
 returns : tie.Need-returns
-returns c = c .sum .ensures ∙ sum-front (c .before .before .before .before .before .args .l) (c .before .before .before .before .before .args .a .now) (c .before .before .before .before .before .args .b .now) (c .before .before .before .before .before .pre) (c .before .before .if1 .taken)
+returns c =
+    let if1 = c .before .before .if1 in  -- 27 + l <= a.len()
+    let args = c .before .before .before .before .before .args in
+    let pre = c .before .before .before .before .before .pre in
+    c .sum .ensures ∙ sum-front (args .l) (args .a .now) (args .b .now) pre (if1 .taken)
 
 sub-span : tie.Need-sub-span
-sub-span c = omega (arith, ap (length {A = ℕ}) (c .before .span .ensures .0), length-take (25 + c .before .before .before .before .before .args .l) (drop 2 (c .before .before .before .before .before .args .a .now)))
+sub-span c =
+    let args = c .before .before .before .before .before .args in
+    omega (arith, ap (length {A = ℕ}) (c .before .span .ensures .0), length-take (25 + args .l) (drop 2 (args .a .now)))
 
 returns-2 : tie.Need-returns-2
 returns-2 c =
+    let sum2 = c .before .before .sum2 in
+    let span2 = c .before .before .before .span2 in
+    let less = c .before .before .before .before .less in
+    let span = c .before .before .before .before .before .span in
     let a = c .before .before .before .before .before .before .before .before .before .args in
-    let place : drop (c .before .before .before .before .less .result) (a .b .now) ≡ drop (2 - length (a .a .now)) (a .b .now) = ap (λ (n : ℕ). drop n (a .b .now)) (c .before .before .before .before .less .ensures) in
-    sum-both (a .l) (a .a .now) (a .b .now) (c .before .before .before .before .before .span .result .now) (c .before .before .before .span2 .result .now) _ _ _ (c .before .before .before .before .before .before .before .before .before .pre) (c .wrapping-add-u8 .ensures) (c .before .before .before .before .before .span .ensures .0)
-    (c .before .before .before .span2 .ensures .0 ∙ ap (take (25 + a .l - length (c .before .before .before .before .before .span .result .now))) place) (c .before .before .sum2 .ensures) (c .before .sum3 .ensures)
+    let pre = c .before .before .before .before .before .before .before .before .before .pre in
+    let place : drop (less .result) (a .b .now) ≡ drop (2 - length (a .a .now)) (a .b .now) = ap (λ (n : ℕ). drop n (a .b .now))
+    (less .ensures) in
+    sum-both (a .l) (a .a .now) (a .b .now) (span .result .now) (span2 .result .now) _ _ _ pre (c .wrapping-add-u8 .ensures)
+    (span .ensures .0)
+    (span2 .ensures .0 ∙ ap (take (25 + a .l - length (span .result .now))) place) (sum2 .ensures) (c .before .sum3 .ensures)
 
 pub sum-of-spec : {M : Type 1} → statement M
 sum-of-spec =

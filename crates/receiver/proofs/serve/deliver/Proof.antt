@@ -13,26 +13,41 @@ use Rattle.receiver.proofs.serve.deliver.Tie as tie
 
 returns-2 : tie.Need-returns-2
 returns-2 c =
-    let a = c .before .before .before .before .before .before .before .before .before .before .args in
-    c .before .before .put .ensures
-    ∙ put-front (a .out .now) (c .before .before .before .span .result .now) (take (a .n) (drop (a .at) (a .held .now ++ a .piece .now)))
-    (c .before .before .before .span .ensures .0 ∙ packet-back (a .n) (a .at) (a .held .now) (a .piece .now) (c .before .before .before .before .before .if2 .taken)) (c .before .before .before .before .before .before .before .before .before .before .pre)
+    let put = c .before .before .put in
+    let span = c .before .before .before .span in
+    let if2 = c .before .before .before .before .before .if2 in  -- held.len() <= at
+    let at-a = c .before .before .before .before .before .before .before .before .before .before in
+    let a = at-a .args in
+    let pre = at-a .pre in
+    put .ensures
+    ∙ put-front (a .out .now) (span .result .now) (take (a .n) (drop (a .at) (a .held .now ++ a .piece .now)))
+    (span .ensures .0 ∙ packet-back (a .n) (a .at) (a .held .now) (a .piece .now) (if2 .taken)) pre
 
 sub-span-2 : tie.Need-sub-span-2
-sub-span-2 c = omega (arith, ap (length {A = ℕ}) (c .before .before .before .before .before .span2 .ensures .0), length-take (c .before .before .before .before .before .before .before .before .before .before .before .args .n) (drop (c .before .before .before .before .before .before .before .before .before .before .before .args .at) (c .before .before .before .before .before .before .before .before .before .before .before .args .held .now)))
+sub-span-2 c =
+    let span2 = c .before .before .before .before .before .span2 in
+    let at-args = c .before .before .before .before .before .before .before .before .before .before .before in
+    let args = at-args .args in
+    omega (arith, ap (length {A = ℕ}) (span2 .ensures .0), length-take (args .n) (drop (args .at) (args .held .now)))
 
 returns-3 : tie.Need-returns-3
 returns-3 c =
-    let a = c .before .before .before .before .before .before .before .before .before .before .before .before .before .before .before .args in
-    let front = c .before .before .before .before .before .before .before .before .before .span2 .result .now in
-    let back = c .before .before .before .span3 .result .now in
+    let put3 = c .before .before .put3 in
+    let span3 = c .before .before .before .span3 in
+    let at-put2 = c .before .before .before .before .before .before .before in
+    let put2 = at-put2 .put2 in
+    let span2 = at-put2 .before .before .span2 in
+    let a = at-put2 .before .before .before .before .before .before .before .before .args in
+    let pre = at-put2 .before .before .before .before .before .before .before .before .pre in
+    let front = span2 .result .now in
+    let back = span3 .result .now in
     let here : a .at - length (a .held .now) ≡ 0 = omega arith in
     let parts : front ++ back ≡ take (a .n) (drop (a .at) (a .held .now ++ a .piece .now)) =
-    parts-are (a .at) (a .n) (a .held .now) (a .piece .now) front back (c .before .before .before .before .before .before .before .before .before .span2 .ensures .0)
-    (c .before .before .before .span3 .ensures .0 ∙ ap (λ (k : ℕ). take (a .n - length front) (drop k (a .piece .now))) (sym here)) in
-    c .before .before .put3 .ensures
-    ∙ ap (λ (o : List ℕ). putAt o (length front) back) (c .before .before .before .before .before .before .before .put2 .ensures)
-    ∙ put-two (a .out .now) front back (take (a .n) (drop (a .at) (a .held .now ++ a .piece .now))) parts (c .before .before .before .before .before .before .before .before .before .before .before .before .before .before .before .pre)
+    parts-are (a .at) (a .n) (a .held .now) (a .piece .now) front back (span2 .ensures .0)
+    (span3 .ensures .0 ∙ ap (λ (k : ℕ). take (a .n - length front) (drop k (a .piece .now))) (sym here)) in
+    put3 .ensures
+    ∙ ap (λ (o : List ℕ). putAt o (length front) back) (put2 .ensures)
+    ∙ put-two (a .out .now) front back (take (a .n) (drop (a .at) (a .held .now ++ a .piece .now))) parts pre
 
 pub deliver-spec : {M : Type 1} → statement M
 deliver-spec =
