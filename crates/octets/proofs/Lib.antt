@@ -6,4 +6,5 @@ pub mod Searches
 pub mod Rows
 pub mod Fill
 pub mod Flags
+pub mod Asked
 pub mod Examples

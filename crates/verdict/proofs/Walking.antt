@@ -1,9 +1,9 @@
 -- The laws by which `search` walks an order of tests to an answer: past a test that held, to the first that failed, or through.
 -- Assumes nothing.
-use mathlib.Core.Bool.{Bool, true, false, _&&_}
+use mathlib.Core.Bool.{Bool, true, false, not, _&&_}
 use mathlib.Core.List.{List, [], _∷_}
 use mathlib.Core.Path.{_≡_, sym, _∙_}
-use borrow.Author.Tests.{le-leb, lt-leb, eq-eqb, ne-eqb}
+use borrow.Author.Tests.{not-true, not-false, lt-ltb, le-ltb, le-leb, lt-leb, eq-eqb, ne-eqb}
 use Rattle.verdict.specs.declared.Verdict.{Verdict}
 use Rattle.verdict.specs.Orders.{Test, inOrder}
 use Rattle.verdict.proofs.Order.{passed, failed}
@@ -28,8 +28,13 @@ first-fails a b e = simp e
 pub second-fails : (a b : Bool) → a ≡ true → b ≡ false → a && b ≡ false
 second-fails a b e f = simp (e, f)
 
--- what a call without a `requires` asks
-pub unasked : {A B : Type 0} → A → B → Unit {0}
-unasked c κs = tt
+-- a test that a call answered, where its answer's contrary was asked
+pub flag-set : (r b : Bool) → r ≡ b → not r ≡ false → b ≡ true
+flag-set r b e n = sym e ∙ not-false r n
 
-pub ruleset in-order = (goes-past, stops-at, comes-through, both-hold, first-fails, second-fails, le-leb, lt-leb, eq-eqb, ne-eqb)
+pub flag-clear : (r b : Bool) → r ≡ b → not r ≡ true → b ≡ false
+flag-clear r b e n = sym e ∙ not-true r n
+
+pub ruleset compared = (lt-ltb, le-ltb, le-leb, lt-leb, eq-eqb, ne-eqb)
+
+pub ruleset in-order = (goes-past, stops-at, comes-through, both-hold, first-fails, second-fails, flag-set, flag-clear, le-leb, lt-leb, eq-eqb, ne-eqb)

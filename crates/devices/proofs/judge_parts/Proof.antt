@@ -6,6 +6,7 @@ use mathlib.Core.Bool.{false, not, _&&_}
 use mathlib.Core.List.{List}
 use mathlib.Core.Path.{_≡_, sym, ap, subst, _∙_}
 use lib.Dec.{ltb}
+use Rattle.octets.proofs.Asked.{unasked}
 use Rattle.octets.specs.Searches.{firstRefused}
 use Rattle.octets.proofs.Flags.{on, off}
 use Rattle.verdict.specs.Orders.{inOrder, good}
@@ -119,16 +120,16 @@ judge-parts-spec =
     loop-holds
     is-rising-requires
     add-refused
-    (λ c κs. tt)
+    unasked
     returns
     first-bytes-requires
     seek-requires
     is-at-requires
     add-refused-2
-    (λ c κs. tt)
+    unasked
     returns-2
     (λ c. omega arith)
     (λ c. omega arith)
     loop-again
-    (λ c κs. tt)
+    unasked
     returns-3)

@@ -2,6 +2,7 @@
 use Prim.Native.Nat.{ℕ, _-_, _≤_}
 use native.Mathlib.Omega.{arith}
 use mathlib.Core.Path.{_≡_, sym, ap, _∙_}
+use Rattle.octets.proofs.Asked.{unasked}
 use Rattle.octets.proofs.Flags.{on, off}
 use Rattle.verdict.specs.Orders.{inOrder, good}
 use Rattle.devices.specs.Sections.{eachEntry}
@@ -45,10 +46,10 @@ judge-systems-spec =
     μ-loop
     loop-holds
     is-rising-requires
-    (λ c κs. tt)
+    unasked
     returns
     (λ c. omega arith)
     (λ c. omega arith)
     loop-again
-    (λ c κs. tt)
+    unasked
     returns-2)

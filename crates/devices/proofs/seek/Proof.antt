@@ -5,6 +5,7 @@ use native.Mathlib.Omega.{arith}
 use mathlib.Core.Bool.{not}
 use mathlib.Core.List.{List}
 use mathlib.Core.Path.{_≡_, refl, sym, ap, _∙_}
+use Rattle.octets.proofs.Asked.{unasked}
 use Rattle.octets.specs.Searches.{firstRefused}
 use Rattle.octets.proofs.Searches.{first-end, first-here, first-on}
 use Rattle.devices.specs.Keys.{below}
@@ -53,7 +54,7 @@ seek-spec =
     μ-loop
     loop-holds
     first-bytes-requires
-    (λ c κs. tt)
+    unasked
     returns
     (λ c. omega arith)
     (λ c. omega arith)

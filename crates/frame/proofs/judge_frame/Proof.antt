@@ -1,7 +1,7 @@
 -- `frame::judge_frame` meets its contract: `search` walks the order of tests to each `return`, by the conditions that led there.
 -- Assumes nothing.
 use borrow.Author.Needs.{needs}
-use Rattle.verdict.proofs.Walking.{unasked}
+use Rattle.octets.proofs.Asked.{unasked}
 use Rattle.frame.proofs.Framing.{framing}
 use Rattle.frame.proofs.judge_frame.Statement.{statement}
 use Rattle.frame.proofs.judge_frame.Tie as tie

@@ -3,6 +3,7 @@ use mathlib.Core.Path.{_≡_, refl}
 use native.Mathlib.Omega.{arith}
 use borrow.Author.Needs.{needs}
 use lib.ListN.{length}
+use Rattle.octets.proofs.Asked.{unasked}
 use Rattle.listing.proofs.list_input.Statement.{statement}
 use Rattle.listing.proofs.list_input.Tie as tie
 
@@ -20,19 +21,19 @@ list-input-spec =
     μ-loop
     (λ c. (refl, refl))
     (λ c. omega arith)
-    (λ c κs. tt)
+    unasked
     (λ c. search needs)
-    (λ c κs. tt)
-    (λ c. search needs)
-    (λ c. search needs)
-    (λ c. tt)
-    (λ c κs. tt)
-    (λ c κs. tt)
+    unasked
     (λ c. search needs)
     (λ c. search needs)
     (λ c. tt)
-    (λ c κs. tt)
-    (λ c κs. tt)
+    unasked
+    unasked
+    (λ c. search needs)
+    (λ c. search needs)
+    (λ c. tt)
+    unasked
+    unasked
     (λ c. search needs)
     (λ c. search needs)
     (λ c. tt)

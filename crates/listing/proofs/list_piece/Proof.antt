@@ -3,6 +3,7 @@ use mathlib.Core.Path.{_≡_, refl}
 use native.Mathlib.Omega.{arith}
 use borrow.Author.Needs.{needs}
 use lib.ListN.{length}
+use Rattle.octets.proofs.Asked.{unasked}
 use Rattle.listing.proofs.list_piece.Statement.{statement}
 use Rattle.listing.proofs.list_piece.Tie as tie
 
@@ -20,13 +21,13 @@ list-piece-spec =
     μ-loop
     (λ c. refl)
     (λ c. omega arith)
-    (λ c κs. tt)
+    unasked
     (λ c κs. search needs)
-    (λ c κs. tt)
-    (λ c κs. tt)
+    unasked
+    unasked
     (λ c. search needs)
     (λ c. tt)
-    (λ c κs. tt)
+    unasked
     (λ c. omega arith)
     (λ c. search needs)
     (λ c. search needs)

@@ -4,6 +4,7 @@ use native.Mathlib.Omega.{arith}
 use mathlib.Core.Path.{_≡_, ap, _∙_}
 use lib.ListN.{length, drop}
 use lib.Seq.{drop-length}
+use Rattle.octets.proofs.Asked.{unasked}
 use Rattle.octets.specs.Sums.{total}
 use Rattle.octets.proofs.Sums.{total-drop}
 use Rattle.octets.proofs.sum_all.Statement.{statement}
@@ -30,4 +31,4 @@ returns c =
     omega (arith, c .before .loop .inv)
 
 pub sum-all-spec : {M : Type 1} → statement M
-sum-all-spec = tie.close (tie.spec Inv-loop μ-loop (λ c. omega arith) (λ c. omega arith) (λ c κs. tt) (λ c. omega arith) (λ c. omega arith) loop-again returns)
+sum-all-spec = tie.close (tie.spec Inv-loop μ-loop (λ c. omega arith) (λ c. omega arith) unasked (λ c. omega arith) (λ c. omega arith) loop-again returns)

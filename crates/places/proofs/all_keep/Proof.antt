@@ -1,6 +1,7 @@
 -- `places::all_keep` meets its contract. The loop's invariant: what is left of the row decides. Assumes nothing.
 use Prim.Native.Nat.{_-_}
 use borrow.Author.Needs.{needs}
+use Rattle.octets.proofs.Asked.{unasked}
 use Rattle.places.specs.Rows.{allKeep}
 use Rattle.places.proofs.Ends.{Left, keep-on, seeking}
 use Rattle.places.proofs.all_keep.Statement.{statement}
@@ -23,11 +24,11 @@ all-keep-spec =
     (tie.spec
     Inv-loop
     μ-loop
-    (λ c κs. tt)
+    unasked
     (λ c. search (seeking, needs))
     (λ c. search needs)
     (λ c. search needs)
-    (λ c κs. tt)
+    unasked
     (λ c. search (seeking, needs))
     (λ c. search needs)
     (λ c. search needs)

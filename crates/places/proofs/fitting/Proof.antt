@@ -2,6 +2,7 @@
 -- Assumes nothing.
 use Prim.Native.Nat.{_-_}
 use borrow.Author.Needs.{needs}
+use Rattle.octets.proofs.Asked.{unasked}
 use Rattle.places.specs.Rows.{fitting}
 use Rattle.places.proofs.Ends.{Left, fit-on, seeking}
 use Rattle.places.proofs.fitting.Statement.{statement}
@@ -24,11 +25,11 @@ fitting-spec =
     (tie.spec
     Inv-loop
     μ-loop
-    (λ c κs. tt)
+    unasked
     (λ c. search (seeking, needs))
     (λ c. search needs)
     (λ c. search needs)
-    (λ c κs. tt)
+    unasked
     (λ c. search (seeking, needs))
     (λ c. search needs)
     (λ c. search needs)

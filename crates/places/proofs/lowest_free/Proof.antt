@@ -1,6 +1,7 @@
 -- `places::lowest_free` meets its contract. The loop's invariant: the first free place of what is left is the first of all. Assumes nothing.
 use Prim.Native.Nat.{_-_}
 use borrow.Author.Needs.{needs}
+use Rattle.octets.proofs.Asked.{unasked}
 use Rattle.places.specs.Rows.{lowestFree}
 use Rattle.places.proofs.Ends.{Left, free-on, seeking}
 use Rattle.places.proofs.lowest_free.Statement.{statement}
@@ -23,11 +24,11 @@ lowest-free-spec =
     (tie.spec
     Inv-loop
     μ-loop
-    (λ c κs. tt)
+    unasked
     (λ c. search (seeking, needs))
     (λ c. search needs)
     (λ c. search needs)
-    (λ c κs. tt)
+    unasked
     (λ c. search (seeking, needs))
     (λ c. search needs)
     (λ c. search needs)

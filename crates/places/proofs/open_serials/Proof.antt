@@ -5,6 +5,7 @@ use borrow.Author.Needs.{needs}
 use mathlib.Core.List.{List}
 use mathlib.Core.Path.{_≡_, refl, ap, subst⁻¹, _∙_}
 use lib.ListN.{length, set, replicate, length-set}
+use Rattle.octets.proofs.Asked.{unasked}
 use Rattle.places.specs.Held.{NONE, Held}
 use Rattle.places.proofs.Held.{held-none, held-more, held-from}
 use Rattle.places.proofs.open_serials.Statement.{statement}
@@ -47,12 +48,12 @@ open-serials-spec =
     (tie.spec
     Inv-loop
     μ-loop
-    (λ c κs. tt)
+    unasked
     loop-holds
     (λ c. omega arith)
     (λ c. omega arith)
     (λ c. omega arith)
-    (λ c κs. tt)
+    unasked
     (λ c. omega arith)
     (λ c. omega arith)
     (λ c. omega arith)

@@ -7,6 +7,7 @@ use mathlib.Core.Bool.{Bool, not}
 use mathlib.Core.List.{List}
 use mathlib.Core.Path.{_≡_, refl, sym, ap, _∙_}
 use lib.ListN.{length}
+use Rattle.octets.proofs.Asked.{unasked}
 use Rattle.octets.specs.Searches.{firstFit}
 use Rattle.octets.proofs.Searches.{first-here, first-on, first-end}
 use Rattle.places.specs.Rows.{upward, serialFor}
@@ -88,12 +89,12 @@ serial-for-spec =
     Inv-loop
     μ-loop
     returns
-    (λ c κs. tt)
+    unasked
     (λ c. omega arith)
     loop-holds
-    (λ c κs. tt)
+    unasked
     returns-2
-    (λ c κs. tt)
+    unasked
     (λ c. omega arith)
     (λ c. omega arith)
     loop-again

@@ -4,6 +4,7 @@ use native.Mathlib.Omega.{arith}
 use borrow.Author.Needs.{needs}
 use mathlib.Core.Path.{_≡_, refl, sym, ap, _∙_}
 use lib.ListN.{length, getD, replicate}
+use Rattle.octets.proofs.Asked.{unasked}
 use Rattle.place.specs.declared.Step.{Step}
 use Rattle.place.specs.Rules.{free}
 use Rattle.places.specs.Rows.{aged, report, nothing, swept}
@@ -51,7 +52,7 @@ tick-all-spec =
     loop-holds
     (λ c. omega arith)
     (λ c. omega arith)
-    (λ c κs. tt)
+    unasked
     (λ c. omega arith)
     (λ c. omega arith)
     (λ c. omega arith)

@@ -7,6 +7,7 @@ use mathlib.Core.Bool.{false}
 use mathlib.Core.List.{List}
 use mathlib.Core.Path.{_≡_, refl, sym, ap, subst⁻¹, _∙_}
 use lib.ListN.{length, set, replicate, length-set}
+use Rattle.octets.proofs.Asked.{unasked}
 use Rattle.octets.specs.Searches.{anyFits}
 use Rattle.octets.proofs.Searches.{any-on}
 use Rattle.places.specs.Rows.{placeAt, doubleAt}
@@ -72,14 +73,14 @@ twice-spec =
     (tie.spec
     Inv-loop
     μ-loop
-    (λ c κs. tt)
+    unasked
     loop-holds
     (λ c. omega arith)
     (λ c. omega arith)
     (λ c. omega arith)
-    (λ c κs. tt)
+    unasked
     returns
-    (λ c κs. tt)
+    unasked
     (λ c. omega arith)
     (λ c. omega arith)
     (λ c. omega arith)

@@ -2,6 +2,7 @@
 use Prim.Native.Nat.{ℕ, _-_}
 use borrow.Author.Needs.{needs}
 use lib.Dec.{eqb}
+use Rattle.octets.proofs.Asked.{unasked}
 use Rattle.rows.proofs.Blocks.{Passed, passed-more, blocks}
 use Rattle.rows.proofs.clear.Statement.{statement}
 use Rattle.rows.proofs.clear.Tie as tie
@@ -37,7 +38,7 @@ clear-spec =
     (λ c. search (blocks, needs))
     (λ c. search (blocks, needs))
     (λ c. search (blocks, needs))
-    (λ c κs. tt)
+    unasked
     (λ c. search (blocks, needs))
     (λ c. search (blocks, needs))
     (λ c. search (blocks, needs))
@@ -48,7 +49,7 @@ clear-spec =
     (λ c. search (blocks, needs))
     (λ c. search (blocks, needs))
     (λ c. search (blocks, needs))
-    (λ c κs. tt)
+    unasked
     (λ c. search (blocks, needs))
     (λ c. search (blocks, needs))
     (λ c. search (blocks, needs))
@@ -56,7 +57,7 @@ clear-spec =
     (λ c. search (blocks, needs))
     (λ c. search (blocks, needs))
     (λ c. search (blocks, needs))
-    (λ c κs. tt)
+    unasked
     (λ c. search (blocks, needs))
-    (λ c κs. tt)
+    unasked
     (λ c. search (blocks, needs)))

@@ -3,6 +3,7 @@ use Prim.Native.Nat.{ℕ, _-_}
 use mathlib.Core.Bool.{Bool}
 use borrow.Author.Needs.{needs}
 use lib.Dec.{eqb}
+use Rattle.octets.proofs.Asked.{unasked}
 use Rattle.rows.proofs.Blocks.{Passed, blocks}
 use Rattle.rows.proofs.clear_few.Statement.{statement}
 use Rattle.rows.proofs.clear_few.Tie as tie
@@ -25,7 +26,7 @@ clear-few-spec =
     (λ c. search (blocks, needs))
     (λ c. search (blocks, needs))
     (λ c. search (blocks, needs))
-    (λ c κs. tt)
+    unasked
     (λ c. search (blocks, needs))
     (λ c. search (blocks, needs))
     (λ c. search (blocks, needs))
@@ -33,7 +34,7 @@ clear-few-spec =
     (λ c. search (blocks, needs))
     (λ c. search (blocks, needs))
     (λ c. search (blocks, needs))
-    (λ c κs. tt)
+    unasked
     (λ c. search (blocks, needs))
-    (λ c κs. tt)
+    unasked
     (λ c. search (blocks, needs)))

@@ -2,6 +2,7 @@
 use Prim.Native.Nat.{_-_}
 use native.Mathlib.Omega.{arith}
 use borrow.Author.Needs.{needs}
+use Rattle.octets.proofs.Asked.{unasked}
 use Rattle.rows.proofs.Noises.{Noisy, noisy-at, noises}
 use Rattle.rows.proofs.noise.Statement.{statement}
 use Rattle.rows.proofs.noise.Tie as tie
@@ -25,12 +26,12 @@ noise-spec =
     (tie.spec
     Inv-loop
     μ-loop
-    (λ c κs. tt)
+    unasked
     (λ c. search (noises, needs))
     (λ c. search (noises, needs))
     (λ c. search (noises, needs))
     (λ c. search (noises, needs))
-    (λ c κs. tt)
+    unasked
     add-at
     (λ c. search (noises, needs))
     (λ c. search (noises, needs))

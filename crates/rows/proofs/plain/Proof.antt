@@ -2,6 +2,7 @@
 use Prim.Native.Nat.{_-_}
 use native.Mathlib.Omega.{arith}
 use borrow.Author.Needs.{needs}
+use Rattle.octets.proofs.Asked.{unasked}
 use Rattle.rows.proofs.Plains.{Plain, plain-long, plain-rest, plains}
 use Rattle.rows.proofs.plain.Statement.{statement}
 use Rattle.rows.proofs.plain.Tie as tie
@@ -33,7 +34,7 @@ plain-spec =
     μ-loop
     Inv-loop2
     μ-loop2
-    (λ c κs. tt)
+    unasked
     (λ c. search (plains, needs))
     (λ c. search (plains, needs))
     (λ c. search (plains, needs))
@@ -41,7 +42,7 @@ plain-spec =
     (λ c. search (plains, needs))
     (λ c. search (plains, needs))
     (λ c. search (plains, needs))
-    (λ c κs. tt)
+    unasked
     (λ c. search (plains, needs))
     (λ c. search (plains, needs))
     (λ c. search (plains, needs))
@@ -51,13 +52,13 @@ plain-spec =
     (λ c. search (plains, needs))
     (λ c. search (plains, needs))
     (λ c. search (plains, needs))
-    (λ c κs. tt)
+    unasked
     (λ c. search (plains, needs))
     (λ c. search (plains, needs))
     (λ c. search (plains, needs))
     (λ c. search (plains, needs))
     (λ c. search (plains, needs))
     (λ c. search (plains, needs))
-    (λ c κs. tt)
+    unasked
     add-result
     (λ c. search (plains, needs)))

@@ -1,6 +1,7 @@
 -- `rows::plain_few` meets its contract. The loops' invariant: what is passed has no 64. Assumes nothing.
 use Prim.Native.Nat.{_-_}
 use borrow.Author.Needs.{needs}
+use Rattle.octets.proofs.Asked.{unasked}
 use Rattle.rows.proofs.Plains.{Plain, plains}
 use Rattle.rows.proofs.plain_few.Statement.{statement}
 use Rattle.rows.proofs.plain_few.Tie as tie
@@ -31,7 +32,7 @@ plain-few-spec =
     (λ c. search (plains, needs))
     (λ c. search (plains, needs))
     (λ c. search (plains, needs))
-    (λ c κs. tt)
+    unasked
     (λ c. search (plains, needs))
     (λ c. search (plains, needs))
     (λ c. search (plains, needs))

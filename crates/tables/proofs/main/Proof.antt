@@ -1,6 +1,7 @@
 -- `tables::main` is safe and ends: the measure is the number of arguments that are left. Assumes nothing.
 use Prim.Native.Nat.{_-_}
 use native.Mathlib.Omega.{arith}
+use Rattle.octets.proofs.Asked.{unasked}
 use Rattle.tables.proofs.main.Statement.{statement}
 use Rattle.tables.proofs.main.Tie as tie
 
@@ -16,11 +17,11 @@ main-spec =
     (tie.spec
     Inv-loop
     μ-loop
-    (λ c κs. tt)
-    (λ c κs. tt)
+    unasked
+    unasked
     (λ c. tt)
     (λ c. tt)
-    (λ c κs. tt)
+    unasked
     (λ c. omega arith)
     (λ c. omega arith)
     (λ c. tt)

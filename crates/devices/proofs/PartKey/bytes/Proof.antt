@@ -3,6 +3,7 @@ use Prim.Native.Nat.{ℕ}
 use mathlib.Core.List.{List, _∷_}
 use mathlib.Core.Path.{ap}
 use borrow.Author.Needs.{needs}
+use Rattle.octets.proofs.Asked.{unasked}
 use Rattle.octets.specs.Numbers.{bytesOf}
 use Rattle.octets.specs.Parts.{oneByOne}
 use Rattle.devices.proofs.PartKey.bytes.Statement.{statement}
@@ -17,4 +18,4 @@ returns c =
 pub bytes-spec : {M : Type 1} → statement M
 bytes-spec =
     tie.close
-    (tie.spec (λ c κs. tt) (λ c. search needs) (λ c. search needs) (λ c. search needs) (λ c. search needs) returns)
+    (tie.spec unasked (λ c. search needs) (λ c. search needs) (λ c. search needs) (λ c. search needs) returns)

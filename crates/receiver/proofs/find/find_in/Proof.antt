@@ -4,6 +4,7 @@ use native.Mathlib.Omega.{arith}
 use mathlib.Core.List.{List, [], _++_}
 use mathlib.Core.Path.{sym, ap, _∙_}
 use lib.ListN.{length, length-drop}
+use Rattle.octets.proofs.Asked.{unasked}
 use Rattle.octets.proofs.Parts.{rest-is}
 use Rattle.reading.specs.Standing.{stands}
 use Rattle.receiver.specs.Runs.{ahead, settled}
@@ -46,7 +47,7 @@ find-in-spec =
     tie.close
     (tie.spec
     (λ c. omega arith)
-    (λ c κs. tt)
+    unasked
     sub-here
     part-here-start
     part-here-end

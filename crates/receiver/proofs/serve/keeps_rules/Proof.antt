@@ -2,6 +2,7 @@
 use native.Mathlib.Omega.{arith}
 use mathlib.Core.Path.{ap, _∙_}
 use borrow.Author.Tests.{le-leb, lt-leb}
+use Rattle.octets.proofs.Asked.{unasked}
 use Rattle.octets.proofs.Parts.{rest-is}
 use Rattle.frame.specs.Frame.{room}
 use Rattle.octets.specs.Searches.{allZero}
@@ -49,5 +50,5 @@ keeps-rules-spec =
     sub-clear
     part-clear-start
     part-clear-end
-    (λ c κs. tt)
+    unasked
     returns-3)

@@ -5,6 +5,7 @@ use native.Mathlib.Omega.{arith}
 use mathlib.Core.Path.{refl, ap, _∙_}
 use borrow.Author.Needs.{needs}
 use lib.ListN.{length}
+use Rattle.octets.proofs.Asked.{unasked}
 use Rattle.reading.proofs.Pads.{pad-long}
 use Rattle.receiver.proofs.Settles.{Settling, new-is, settled-size, settled-long, settled-short}
 use Rattle.receiver.proofs.serve.settle.Statement.{statement}
@@ -63,16 +64,16 @@ pub settle-spec : {M : Type 1} → statement M
 settle-spec =
     tie.close
     (tie.spec
-    (λ c κs. tt)
+    unasked
     (λ c κs. search needs)
-    (λ c κs. tt)
-    (λ c κs. tt)
-    (λ c κs. tt)
+    unasked
+    unasked
+    unasked
     add-now
     (λ c. search needs)
     part-wipe-start
     part-wipe-end
-    (λ c κs. tt)
+    unasked
     same-length
     returns
     same-length-2
