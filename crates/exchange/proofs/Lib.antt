@@ -1,4 +1,5 @@
 pub mod Answers
+pub mod Calls
 pub mod Kept
 pub mod Changes
 pub mod Examples
