@@ -3,3 +3,6 @@ pub mod Serials
 pub mod Rules
 pub mod Held
 pub mod Ends
+mod Loops
+mod Sweeping
+mod Hitting
