@@ -2,6 +2,7 @@ pub mod Numbers
 pub mod Signs
 pub mod Parts
 pub mod Sums
+pub mod Copying
 pub mod Searches
 pub mod Rows
 pub mod Fill

@@ -1,6 +1,6 @@
 -- The laws of numbers as bytes: how a number is read byte by byte, and the round trips. By induction on the bytes.
 -- Assumes nothing.
-use Prim.Native.Nat.{ℕ, zero, suc, _+_, _*_, _/_, _%_, _^_, _≤_, _<_}
+use Prim.Native.Nat.{ℕ, zero, suc, _+_, _*_, _-_, _/_, _%_, _^_, _≤_, _<_}
 use native.Mathlib.Nat.{pow-suc}
 use native.Mathlib.Numerals.{add-one, add-two}
 use native.Mathlib.Omega.{arith}
@@ -34,17 +34,29 @@ low-four s at =
     (omega
     (arith, low-step s at 3, low-step s (suc at) 2, low-step s at 1, low-step s (suc at) 0))
 
+-- read byte by byte, or two and two
+pub of-two : (s : List ℕ) (at a b : ℕ) → a ≡ getD s at 0 → b ≡ getD s (at + 1) 0 → a + 256 * b ≡ lowFirst (take 2 (drop at s))
+of-two s at a b e f = (λ i. e i + 256 * f i) ∙ sym (low-two s at)
+
+pub of-four : (s : List ℕ) (at a b r : ℕ) → a ≡ lowFirst (take 2 (drop at s)) → b ≡ lowFirst (take 2 (drop (at + 2) s)) → r ≡ a + 65536 * b
+    → r ≡ lowFirst (take 4 (drop at s))
+of-four s at a b r e f j = j ∙ (λ i. e i + 65536 * f i) ∙ sym (low-four s at)
+
 take-twice : (n : ℕ) (s : List ℕ) → take n (take n s) ≡ take n s
 take-twice zero s = refl
 take-twice (suc n) [] = refl
 take-twice (suc n) (b ∷ s) = ap (λ (t : List ℕ). b ∷ t) (take-twice n s)
 
 -- the same of the four bytes alone
-pub low-alone : (s : List ℕ) (at n : ℕ) → n ≡ 4 → lowFirst (take 2 (drop 0 (take n (drop at s)))) + 65536 * lowFirst (take 2 (drop 2 (take n (drop at s)))) ≡ lowFirst (take 4 (drop at s))
-low-alone s at n e =
-    ap (λ (k : ℕ). lowFirst (take 2 (drop 0 (take k (drop at s)))) + 65536 * lowFirst (take 2 (drop 2 (take k (drop at s))))) e
-    ∙ sym (low-four (take 4 (drop at s)) 0)
+pub four-alone : (s : List ℕ) (at a b r : ℕ) → a ≡ lowFirst (take 2 (drop 0 (take (at + 4 - at) (drop at s))))
+    → b ≡ lowFirst (take 2 (drop 2 (take (at + 4 - at) (drop at s)))) → r ≡ a + 65536 * b → r ≡ lowFirst (take 4 (drop at s))
+four-alone s at a b r e f j =
+    let four : at + 4 - at ≡ 4 = omega arith in
+    of-four (take (at + 4 - at) (drop at s)) 0 a b r e f j
+    ∙ ap (λ (k : ℕ). lowFirst (take 4 (take k (drop at s)))) four
     ∙ ap lowFirst (take-twice 4 (drop at s))
+
+pub ruleset numbers = (low-behind, of-two, of-four, four-alone)
 
 pub length-bytes : (n x : ℕ) → length (bytesOf n x) ≡ n
 unfolding bytesOf

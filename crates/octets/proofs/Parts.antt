@@ -9,7 +9,7 @@ use borrow.Author.Tests.{le-leb, lt-leb, leb-true, leb-false}
 use lib.Dec.{leb}
 use lib.ListN.{length, getD, set, take, drop, replicate, List·getD-eq-default, length-append, length-take, length-drop, take-append-drop, drop-of-length-le}
 use native.Mathlib.Nat.{le-of-eq}
-use native.Mathlib.Numerals.{add-one}
+use native.Mathlib.Numerals.{add-one, add-two, add-three, add-four, add-five}
 use lib.Seq.{sets, sets-eq, paste, paste-suc, drop-drop, take-all, take-length, take-at, drop-at, take-append-seam, drop-cons, getD-take, getD-drop, length-take-le}
 use Rattle.octets.specs.Parts.{within, part, partPlace, putAt, oneByOne}
 
@@ -35,11 +35,15 @@ module _ (s : List ℕ) (from to : ℕ) where
   unfolding part partPlace
   no-part e p = (simp e, simp e)
 
-  pub past-end : length s < to → within s from to ≡ false
-  past-end h = simp (lt-leb to (length s) h)
+  module _ (p : ℕ × ℕ) where
+    pub past-end : length s < to → ([] ≡ part s from to) × ((p .0, 0 + p .1) ≡ partPlace p s from to)
+    past-end h = no-part (simp (lt-leb to (length s) h)) p
 
-  pub reversed : to ≤ length s → to < from → within s from to ≡ false
-  reversed fits h = simp (le-leb to (length s) fits, lt-leb from to h)
+    pub reversed : to ≤ length s → to < from → ([] ≡ part s from to) × ((p .0, 0 + p .1) ≡ partPlace p s from to)
+    reversed fits h = no-part (simp (le-leb to (length s) fits, lt-leb from to h)) p
+
+    pub lent : to ≤ length s → from ≤ to → (take (to - from) (drop from s) ≡ part s from to) × ((p .0, from + p .1) ≡ partPlace p s from to)
+    lent fits up = (sym (part-is s from to up fits), sym (place-is s from to up fits p))
 
 -- bytes that fit
 module _ (o : List ℕ) (at : ℕ) (bytes : List ℕ) (fits : at + length bytes ≤ length o) where
@@ -94,6 +98,13 @@ one-by-one s i (suc n) h =
 pub one-behind : (s : List ℕ) (i n : ℕ) → length s ≤ i → replicate n 0 ≡ oneByOne s i n
 one-behind s i zero h = refl
 one-behind s i (suc n) h = λ k. sym (List·getD-eq-default s 0 h) k ∷ one-behind s (suc i) n (omega arith) k
+
+pub six-read : (s : List ℕ) (at a b c d e f : ℕ) → a ≡ getD s at 0 → b ≡ getD s (at + 1) 0 → c ≡ getD s (at + 2) 0 → d ≡ getD s (at + 3) 0
+    → e ≡ getD s (at + 4) 0 → f ≡ getD s (at + 5) 0 → a ∷ b ∷ c ∷ d ∷ e ∷ f ∷ [] ≡ oneByOne s at 6
+six-read s at a b c d e f p q r t u v =
+    (λ i. p i ∷ q i ∷ r i ∷ t i ∷ u i ∷ v i ∷ []) ∙ simp (add-one, add-two, add-three, add-four, add-five)
+
+pub ruleset bytewise = (one-behind, six-read)
 
 -- what `&s[at..]` lends is all from that place on
 pub rest-is : (s : List ℕ) (at : ℕ) → take (length s - at) (drop at s) ≡ drop at s

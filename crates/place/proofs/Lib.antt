@@ -1,2 +1,3 @@
+mod Answers
 pub mod Kept
 pub mod Codes

@@ -22,7 +22,7 @@ list-piece-spec =
     (λ c. refl)
     (λ c. omega arith)
     unasked
-    (λ c κs. search needs)
+    unasked
     unasked
     unasked
     (λ c. search needs)

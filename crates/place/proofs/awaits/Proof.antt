@@ -1,6 +1,7 @@
 -- `place::awaits` meets its contract by the reply that it was told. Assumes nothing.
 use borrow.Author.Needs.{needs}
 use mathlib.Core.Path.{sym, ap, _∙_}
+use Rattle.octets.proofs.Asked.{unasked}
 use Rattle.place.specs.Steps.{awaits}
 use Rattle.place.proofs.awaits.Statement.{statement}
 use Rattle.place.proofs.awaits.Tie as tie
@@ -24,7 +25,7 @@ awaits-spec =
     (λ c. search needs)
     (λ c. search needs)
     (λ c. search needs)
-    (λ c κs. search needs)
+    unasked
     (λ c. search needs)
     returns
     returns-2

@@ -4,6 +4,7 @@ use mathlib.Core.Path.{_≡_, refl}
 use native.Mathlib.Omega.{arith}
 use borrow.Author.Needs.{needs}
 use lib.ListN.{length}
+use Rattle.octets.proofs.Asked.{unasked}
 use Rattle.tables.proofs.read_all.Statement.{statement}
 use Rattle.tables.proofs.read_all.Tie as tie
 
@@ -26,13 +27,13 @@ read-all-spec =
     (λ c. search needs)
     (λ c. search needs)
     (λ c. search needs)
-    (λ c κs. search needs)
+    unasked
     (λ c. search needs)
     (λ c. search needs)
     (λ c. search needs)
     (λ c. search needs)
     (λ c. search needs)
-    (λ c κs. search needs)
+    unasked
     (λ c. search needs)
     (λ c. search needs)
     (λ c. search needs)

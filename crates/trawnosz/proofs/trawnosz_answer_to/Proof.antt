@@ -1,6 +1,7 @@
 -- `trawnosz_answer_to` meets its contract: by the reply and its command. Assumes nothing.
 use Prim.Native.Nat.{ℕ}
 use mathlib.Core.Path.{_≡_, ap, _∙_}
+use Rattle.octets.proofs.Asked.{unasked}
 use Rattle.trawnosz.specs.Calls.{answerTo}
 use borrow.Author.Needs.{needs}
 use Rattle.trawnosz.proofs.trawnosz_answer_to.Statement.{statement}
@@ -14,4 +15,4 @@ returns c =
     )
 
 pub trawnosz-answer-to-spec : {M : Type 1} → statement M
-trawnosz-answer-to-spec = tie.close (tie.spec (λ c κs. search needs) (λ c κs. search needs) (λ c. search needs) returns)
+trawnosz-answer-to-spec = tie.close (tie.spec unasked unasked (λ c. search needs) returns)

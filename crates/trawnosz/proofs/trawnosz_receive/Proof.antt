@@ -1,5 +1,6 @@
 -- `trawnosz_receive` meets its contract: by the call and what its event tells. Assumes nothing.
 use mathlib.Core.Path.{_≡_, ap, _∙_}
+use Rattle.octets.proofs.Asked.{unasked}
 use Rattle.reading.specs.declared.Told.{Told}
 use Rattle.trawnosz.specs.Calls.{servedTo}
 use borrow.Author.Needs.{needs}
@@ -16,4 +17,4 @@ returns c =
     )
 
 pub trawnosz-receive-spec : {M : Type 1} → statement M
-trawnosz-receive-spec = tie.close (tie.spec (λ c κs. search needs) (λ c κs. search needs) (λ c. search needs) returns)
+trawnosz-receive-spec = tie.close (tie.spec unasked unasked (λ c. search needs) returns)
