@@ -95,7 +95,8 @@ pub write-packet-determined : (κs : _) (out o o' : RefT (List ℕ)) (h : Header
 write-packet-determined κs out o o' h l r s a b = (a .0 ∙ sym (b .0), a .1 ∙ sym (b .1))
 
 pub write-packet-object-determined : (κs : _) (out o o' : RefT (List ℕ)) (l : ℕ) (k : ℕ) (f : Fields) (d : RefT (List ℕ)) (r s : Verdict)
-    → write-packet-object.Post κs (out, (l, (k, (f, (d, tt))))) r (o, (l, (k, (f, (d, tt))))) → write-packet-object.Post κs (out, (l, (k, (f, (d, tt))))) s (o', (l, (k, (f, (d, tt))))) → (r ≡ s) × (now o ≡ now o')
+    → write-packet-object.Post κs (out, (l, (k, (f, (d, tt))))) r (o, (l, (k, (f, (d, tt)))))
+    → write-packet-object.Post κs (out, (l, (k, (f, (d, tt))))) s (o', (l, (k, (f, (d, tt))))) → (r ≡ s) × (now o ≡ now o')
 write-packet-object-determined κs out o o' l k f d r s a b = (a .0 ∙ sym (b .0), a .1 ∙ sym (b .1))
 
 pub write-packet-text-determined : (κs : _) (out o o' : RefT (List ℕ)) (t : RefT (List ℕ)) (r s : Verdict)

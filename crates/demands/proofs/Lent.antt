@@ -44,7 +44,8 @@ pub output-write-determined : (κs : _) (out o o' : RefT (List ℕ)) (h : Header
 output-write-determined κs out o o' h l r s a b = (a .0 ∙ sym (b .0), a .1 ∙ sym (b .1))
 
 pub output-write-object-determined : (κs : _) (out o o' : RefT (List ℕ)) (l : ℕ) (k : ℕ) (f : Fields) (d : RefT (List ℕ)) (r s : Verdict)
-    → output-write-object.Post κs (out, (l, (k, (f, (d, tt))))) r (o, (l, (k, (f, (d, tt))))) → output-write-object.Post κs (out, (l, (k, (f, (d, tt))))) s (o', (l, (k, (f, (d, tt))))) → (r ≡ s) × (now o ≡ now o')
+    → output-write-object.Post κs (out, (l, (k, (f, (d, tt))))) r (o, (l, (k, (f, (d, tt)))))
+    → output-write-object.Post κs (out, (l, (k, (f, (d, tt))))) s (o', (l, (k, (f, (d, tt))))) → (r ≡ s) × (now o ≡ now o')
 output-write-object-determined κs out o o' l k f d r s a b = (a .0 ∙ sym (b .0), a .1 ∙ sym (b .1))
 
 pub output-write-text-determined : (κs : _) (out o o' : RefT (List ℕ)) (t : RefT (List ℕ)) (r s : Verdict)

@@ -9,11 +9,11 @@ use Rattle.verdict.specs.Refusals.{STATE, SETTING, FULL, STRAY}
 use Rattle.verdict.specs.Orders.{good, refusal, isGood}
 use Rattle.place.specs.declared.Reply.{Reply}
 use Rattle.place.specs.declared.Step.{Step}
-use Rattle.place.specs.Rules.{free}
+use Rattle.place.specs.Rules.{free, opened}
 use Rattle.place.specs.declared.Place.{Place}
 use Rattle.place.specs.Steps.{NOTHING, replied}
 use Rattle.places.specs.declared.Swept.{Swept}
-use Rattle.places.specs.Rows.{placeAt, lowestFree, twice, allKeep, serialFor, fitting, nothing, swept}
+use Rattle.places.specs.Rows.{placeAt, lowestFree, twice, allKeep, upward, serialFor, fitting, nothing, swept}
 use Rattle.exchange.specs.declared.Exchanges.{Exchanges}
 use Rattle.exchange.specs.declared.Told.{Told}
 use Rattle.exchange.specs.declared.Made.{Made}
@@ -22,7 +22,8 @@ use Rattle.exchange.specs.declared.Begun.{Begun}
 use Rattle.exchange.specs.declared.Replied.{Replied}
 use Rattle.exchange.specs.declared.Ticked.{Ticked}
 use Rattle.exchange.specs.Table.{inRange, legal, made, found, entered, placed, modeOf, begun, answered, ticking}
-use Rattle.exchange.proofs.Answers.{made-refused, made-good, found-state, found-full, found-good, found-place, begun-refused, begun-good, answered-state, answered-stray, answered-good, stepped, ticking-state, ticking-good, after-tick}
+use Rattle.exchange.proofs.Answers.{made-refused, made-good, found-state, found-full, found-good, found-place, begun-refused, begun-good}
+use Rattle.exchange.proofs.Answers.{answered-state, answered-stray, answered-good, stepped, ticking-state, ticking-good, after-tick}
 
 -- whether a state keeps its rules
 module _ (x : Exchanges) (ranged kept : Bool) (r : ranged ≡ inRange (x .timeout) (x .resends)) where
@@ -105,6 +106,12 @@ module _ (x : Exchanges) (l : Bool) (told : l ≡ legal x) where
       ap (λ (u : Verdict). record { verdict = u; reports = all .reports; state = placed x (all .places) }) e
       ∙ ap (after-tick x) a
       ∙ sym (ticking-good x (on told n))
+
+-- an exchange entered, n being the serial after its own
+pub enter-next : (x : Exchanges) (k s m n : ℕ) → n ≡ upward s 1
+    → _≡_ {A = Exchanges} (record { places = set (x .places) k (opened s m); next = n; timeout = x .timeout; resends = x .resends }) (entered x k s m)
+enter-next x k s m n e =
+    ap (λ (j : ℕ). record { places = set (x .places) k (opened s m); next = j; timeout = x .timeout; resends = x .resends }) e
 
 -- beginning, where f is what was found
 module _ (x : Exchanges) (m : Told) (f : Found) (told : f ≡ found x) (g : Bool) (judged : g ≡ isGood (f .verdict)) where

@@ -81,14 +81,16 @@ examples =
     -- a failed place is zeroed, and its serial is told
     ∷ example (table (opened 7 SEND ∷ []) 9 1 0) (tick ∷ tick ∷ []) (first 7 FAILED ∷ first 0 0 ∷ []) both-free
     -- a send: an answer and a bad answer are stray, a denial fails it, and then it is no more
-    ∷ example (table (opened 7 SEND ∷ []) 0 1 0) (reply 7 Answer ∷ reply 7 BadAnswer ∷ reply 6 Confirm ∷ reply 7 Deny ∷ reply 7 Confirm ∷ []) (no-reply STRAY ∷ no-reply STRAY ∷ no-reply STRAY ∷ (0 ∷ 0 ∷ FAILED ∷ []) ∷ no-reply STRAY ∷ []) both-free
+    ∷ example (table (opened 7 SEND ∷ []) 0 1 0) (reply 7 Answer ∷ reply 7 BadAnswer ∷ reply 6 Confirm ∷ reply 7 Deny ∷ reply 7 Confirm ∷ [])
+    (no-reply STRAY ∷ no-reply STRAY ∷ no-reply STRAY ∷ (0 ∷ 0 ∷ FAILED ∷ []) ∷ no-reply STRAY ∷ []) both-free
     -- a confirm frees it
     ∷ example (table (opened 7 SEND ∷ opened 8 SEND ∷ []) 0 1 0) (reply 8 Confirm ∷ []) ((0 ∷ 1 ∷ CONFIRMED ∷ []) ∷ []) (opened 7 SEND ∷ free ∷ [])
     -- a request: a confirm is stray, a bad answer resends it, and an answer ends it
     ∷ example (table (free ∷ opened 7 REQUEST ∷ []) 0 1 1) (reply 7 Confirm ∷ reply 7 BadAnswer ∷ []) (no-reply STRAY ∷ (0 ∷ 1 ∷ RESENT ∷ []) ∷ []) (free ∷ counted 1 0 (opened 7 REQUEST) ∷ [])
     ∷ example (table (free ∷ opened 7 REQUEST ∷ []) 0 1 1) (reply 7 Answer ∷ []) ((0 ∷ 1 ∷ ANSWERED ∷ []) ∷ []) both-free
     -- sixteen are open
-    ∷ example (table (map (λ (s : ℕ). opened s SEND) (0 ∷ 1 ∷ 2 ∷ 3 ∷ 4 ∷ 5 ∷ 6 ∷ 7 ∷ 8 ∷ 9 ∷ 10 ∷ 11 ∷ 12 ∷ 13 ∷ 14 ∷ 15 ∷ [])) 3 1 0) (begin told.Send ∷ []) (no-begin FULL 3 ∷ []) (opened 0 SEND ∷ opened 1 SEND ∷ [])
+    ∷ example (table (map (λ (s : ℕ). opened s SEND) (0 ∷ 1 ∷ 2 ∷ 3 ∷ 4 ∷ 5 ∷ 6 ∷ 7 ∷ 8 ∷ 9 ∷ 10 ∷ 11 ∷ 12 ∷ 13 ∷ 14 ∷ 15 ∷ [])) 3 1 0)
+    (begin told.Send ∷ []) (no-begin FULL 3 ∷ []) (opened 0 SEND ∷ opened 1 SEND ∷ [])
     -- STATE: a free place with serial 7; a mode that is none of the three; age T; resends R + 1; one serial open as a send and as a request; T 0 or 11; R 10
     ∷ broken (table (opened 7 FREE ∷ []) 0 1 0)
     ∷ broken (table (opened 7 3 ∷ []) 0 1 0)

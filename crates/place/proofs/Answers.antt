@@ -113,4 +113,6 @@ module _ (p : Place) where
         same true = refl
         same false = refl
 
-pub ruleset answers = (a-serial, a-mode, a-resend, age-alone, not-open, open-under, young, too-old, a-free-place, no-tick, older, run-out, sent-again, has-failed, by-confirm, by-answer, by-deny, by-bad-answer, another-serial, its-serial)
+pub ruleset asked = (a-serial, a-mode, a-resend, age-alone, not-open, open-under, young, too-old, a-free-place, another-serial, its-serial)
+
+pub ruleset stepping = (no-tick, older, run-out, sent-again, has-failed, by-confirm, by-answer, by-deny, by-bad-answer)

@@ -43,7 +43,11 @@ module _ (M : ℕ) (st : State) (piece out : List ℕ) (g : Good M st) (r : room
   goes more =
       reading-first M (st .skipped) (heldBytes st ++ piece) more
       ∙ ap (λ (l : List ℕ). hearing (finds M st piece out g r) ((heldBytes st ++ piece) ++ more) (reading M (finds M st piece out g r .count) 0 l)) (call-goes-on M st piece out g r more)
-      ∙ ap (λ (a : Answer). hearing (finds M st piece out g r) ((heldBytes st ++ piece) ++ more) (reading M (a .state .skipped) 0 ((heldBytes (called M st piece out .state) ++ drop (called M st piece out .taken) piece) ++ more))) (sym (answer-is M st piece out g r))
+      ∙ ap (λ (a : Answer). hearing (finds M st piece out g r) ((heldBytes st ++ piece) ++ more) (reading M (a .state .skipped) 0 (left ++ more)))
+      (sym (answer-is M st piece out g r))
+    where
+      left : List ℕ
+      left = heldBytes (called M st piece out .state) ++ drop (called M st piece out .taken) piece
 
   event-same : asks (called M st piece out .event) ≡ asks (finds M st piece out g r .event)
   unfolding answerBy
@@ -139,7 +143,14 @@ streamed-agrees M lent r i st pieces hs end j g (none _ _) =
 streamed-agrees M lent r i st pieces hs end j g (next _ _ piece rest os ks mid _ k _ o t) =
     let one = offered-agrees M lent r i st piece os mid k (g .good) o in
     let two = streamed-agrees M lent r k mid rest ks end j (one .ready) t in
-    record { heard = λ more. apart piece rest more ∙ one .heard (joined rest ++ more) ∙ ap (afters os) (ap (reading M (mid .skipped) 0) (sym (append-assoc (heldBytes mid) (joined rest) more)) ∙ two .heard more) ∙ together os ks (reading M (end .skipped) 0 (heldBytes end ++ more)); ready = two .ready }
+    record {
+      heard = λ more.
+          apart piece rest more
+          ∙ one .heard (joined rest ++ more)
+          ∙ ap (afters os) (ap (reading M (mid .skipped) 0) (sym (append-assoc (heldBytes mid) (joined rest) more)) ∙ two .heard more)
+          ∙ together os ks (reading M (end .skipped) 0 (heldBytes end ++ more));
+      ready = two .ready;
+    }
   where
     apart : (piece : List ℕ) (rest : List (List ℕ)) (more : List ℕ) → reading M (st .skipped) 0 ((heldBytes st ++ (piece ++ joined rest)) ++ more)
         ≡ reading M (st .skipped) 0 ((heldBytes st ++ piece) ++ (joined rest ++ more))

@@ -113,7 +113,8 @@ pub part-good : (v : Verdict) (from to : ℕ) → (partBy v from to .verdict ≡
 unfolding partBy
 part-good v from to = by-test (isGood v) refl
   where
-    by-test : (g : Bool) → isGood v ≡ g → (cond g (record { verdict = v; from = from; to = to }) (noPart v) .verdict ≡ v) × (isGood v ≡ true → cond g (record { verdict = v; from = from; to = to }) (noPart v) .from ≡ from)
+    by-test : (g : Bool) → isGood v ≡ g → (cond g (record { verdict = v; from = from; to = to }) (noPart v) .verdict ≡ v)
+        × (isGood v ≡ true → cond g (record { verdict = v; from = from; to = to }) (noPart v) .from ≡ from)
     by-test true q = (refl, λ e. refl)
     by-test false q = (refl, λ e. absurd (false≢true (sym q ∙ e)))
 
@@ -135,5 +136,6 @@ module _ (ts us : List Test) (from to : ℕ) where
   unfolding partBy
   part-refuses n g e = simp (joined-on ts us good n g, e)
 
-  pub part-passes : refusing ts ≡ true → refusing us ≡ true → isGood (inOrder ts good) ≡ true → isGood (inOrder us good) ≡ true → partBy (inOrder ts good) from to ≡ partBy (inOrder (ts ++ us) good) from to
+  pub part-passes : refusing ts ≡ true → refusing us ≡ true → isGood (inOrder ts good) ≡ true → isGood (inOrder us good) ≡ true
+      → partBy (inOrder ts good) from to ≡ partBy (inOrder (ts ++ us) good) from to
   part-passes n m g h = ap (λ (v : Verdict). partBy v from to) (good-is ts n g ∙ sym (joined-on ts us good n g ∙ good-is us m h))

@@ -11,7 +11,8 @@ returns : tie.Need-returns
 returns c =
     let s = c .before .before .before .receive-lent in
     let r = s .result in (
-      ap (λ (t : Told). record { event = t .number; length = t .length; skipped = r .skipped; taken = r .taken; held = r .held; count = r .count }) (c .told .ensures)
+      ap (λ (t : Told). record { event = t .number; length = t .length; skipped = r .skipped; taken = r .taken; held = r .held; count = r .count })
+          (c .told .ensures)
           ∙ ap servedTo (s .ensures .0),
       (s .ensures .1 .0, s .ensures .1 .1),
     )

@@ -1,7 +1,7 @@
 -- `place::denied` meets its contract by its test. Assumes nothing.
 use borrow.Author.Needs.{needs}
 use Rattle.octets.proofs.Asked.{unasked}
-use Rattle.place.proofs.Answers.{answers}
+use Rattle.place.proofs.Answers.{stepping}
 use Rattle.place.proofs.Place.denied.Statement.{statement}
 use Rattle.place.proofs.Place.denied.Tie as tie
 
@@ -11,5 +11,5 @@ denied-spec =
     (tie.spec
     unasked
     (λ c. search needs)
-    (λ c. search answers)  -- self.resends < resends
-    (λ c. search answers))
+    (λ c. search stepping)  -- self.resends < resends
+    (λ c. search stepping))

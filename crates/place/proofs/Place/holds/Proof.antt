@@ -1,6 +1,6 @@
 -- `place::holds` meets its contract by its test. Assumes nothing.
 use Rattle.octets.proofs.Asked.{unasked}
-use Rattle.place.proofs.Answers.{answers}
+use Rattle.place.proofs.Answers.{asked}
 use Rattle.place.proofs.Place.holds.Statement.{statement}
 use Rattle.place.proofs.Place.holds.Tie as tie
 
@@ -9,5 +9,5 @@ holds-spec =
     tie.close
     (tie.spec
     unasked
-    (λ c. search answers)  -- !is_open(self.mode)
-    (λ c. search answers))
+    (λ c. search asked)  -- !is_open(self.mode)
+    (λ c. search asked))

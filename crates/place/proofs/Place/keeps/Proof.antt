@@ -1,6 +1,6 @@
 -- `place::keeps` meets its contract: each answer by the tests that led there. Assumes nothing.
 use Rattle.octets.proofs.Asked.{unasked}
-use Rattle.place.proofs.Answers.{answers}
+use Rattle.place.proofs.Answers.{asked}
 use Rattle.place.proofs.Place.keeps.Statement.{statement}
 use Rattle.place.proofs.Place.keeps.Tie as tie
 
@@ -9,7 +9,7 @@ keeps-spec =
     tie.close
     (tie.spec
     unasked
-    (λ c. search answers)  -- self.age < timeout
-    (λ c. search answers)  -- is_open(self.mode)
+    (λ c. search asked)  -- self.age < timeout
+    (λ c. search asked)  -- is_open(self.mode)
     unasked
-    (λ c. search answers))
+    (λ c. search asked))

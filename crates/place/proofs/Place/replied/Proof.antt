@@ -1,7 +1,7 @@
 -- `place::replied` meets its contract: each arm by what it was told. Assumes nothing.
 use borrow.Author.Needs.{needs}
 use Rattle.octets.proofs.Asked.{unasked}
-use Rattle.place.proofs.Answers.{answers}
+use Rattle.place.proofs.Answers.{stepping}
 use Rattle.place.proofs.Place.replied.Statement.{statement}
 use Rattle.place.proofs.Place.replied.Tie as tie
 
@@ -17,7 +17,7 @@ replied-spec =
     unasked
     (λ c. search needs)
     unasked
-    (λ c. search answers)  -- Reply::Confirm
-    (λ c. search answers)  -- Reply::Answer
-    (λ c. search answers)  -- Reply::Deny
-    (λ c. search answers))  -- Reply::BadAnswer
+    (λ c. search stepping)  -- Reply::Confirm
+    (λ c. search stepping)  -- Reply::Answer
+    (λ c. search stepping)  -- Reply::Deny
+    (λ c. search stepping))  -- Reply::BadAnswer
