@@ -1,41 +1,43 @@
--- One law for each answer of CUT, MANY and CUT. Assumes nothing.
+-- What the tests CUT, MANY and CUT of a section come to at the count that was read. Assumes nothing.
 use Prim.Native.Nat.{ℕ, _+_, _-_, _*_, _≤_, _<_}
+use native.Mathlib.Nat.{mul-le-mul}
 use native.Mathlib.Omega.{arith}
+use mathlib.Core.Bool.{true, false}
 use mathlib.Core.List.{List}
 use mathlib.Core.Path.{_≡_, ap}
 use borrow.Author.Tests.{le-leb, lt-leb}
-use lib.ListN.{length}
-use Rattle.verdict.specs.Orders.{inOrder, refusal, good}
-use Rattle.verdict.specs.Refusals.{CUT, MANY}
+use lib.Dec.{leb}
+use lib.ListN.{length, take, drop}
+use Rattle.octets.specs.Numbers.{lowFirst}
+use Rattle.verdict.proofs.Walking.{in-order}
 use Rattle.devices.specs.declared.Section.{Section}
-use Rattle.devices.specs.Sections.{countAt, entryAt, endOf, sectionTests}
+use Rattle.devices.specs.Sections.{countAt, entryAt, endOf}
 
-module _ (z : Section) (t : List ℕ) (from : ℕ) (begins : from ≤ length t) where
-  pub no-count : length t - from < 2 → refusal CUT 0 ≡ inOrder (sectionTests z t from) good
-  unfolding inOrder
-  no-count h = simp (lt-leb (from + 2) (length t) (omega arith))
+module _ (t : List ℕ) (from : ℕ) where
+  pub count-there : from ≤ length t → 2 ≤ length t - from → leb (from + 2) (length t) ≡ true
+  count-there b h = le-leb (from + 2) (length t) (omega arith)
 
-  module _ (counts : 2 ≤ length t - from) (n : ℕ) (counted : n ≡ countAt t from) where
-    has-count : from + 2 ≤ length t
-    has-count = omega arith
+  pub count-cut : from ≤ length t → length t - from < 2 → leb (from + 2) (length t) ≡ false
+  count-cut b h = lt-leb (from + 2) (length t) (omega arith)
 
-    pub too-many : z .limit < n → refusal MANY 0 ≡ inOrder (sectionTests z t from) good
-    unfolding inOrder
-    too-many h = simp (le-leb (from + 2) (length t) has-count, lt-leb (countAt t from) (z .limit) (omega arith))
+  module _ (n : ℕ) (counted : n ≡ lowFirst (take 2 (drop from t))) where
+    pub count-few : (limit : ℕ) → n ≤ limit → leb (countAt t from) limit ≡ true
+    unfolding countAt
+    count-few limit h = le-leb (countAt t from) limit (omega arith)
 
-    ends : from + 2 + n * z .entry ≡ endOf z t from
-    unfolding entryAt
-    ends = ap (λ (k : ℕ). from + 2 + k * z .entry) counted
+    pub count-many : (limit : ℕ) → limit < n → leb (countAt t from) limit ≡ false
+    unfolding countAt
+    count-many limit h = lt-leb (countAt t from) limit (omega arith)
 
-    module _ (few : n ≤ z .limit) where
-      pub no-entries : length t - from - 2 < n * z .entry → refusal CUT 0 ≡ inOrder (sectionTests z t from) good
-      unfolding inOrder
-      no-entries h =
-          simp
-          (le-leb (from + 2) (length t) has-count, le-leb (countAt t from) (z .limit) (omega arith), lt-leb (endOf z t from) (length t) (omega (arith, ends)))
+    module _ (z : Section) (begins : from ≤ length t) (counts : 2 ≤ length t - from) where
+      ends : from + 2 + n * z .entry ≡ endOf z t from
+      unfolding entryAt countAt
+      ends = ap (λ (k : ℕ). from + 2 + k * z .entry) counted
 
-      pub whole : n * z .entry ≤ length t - from - 2 → good ≡ inOrder (sectionTests z t from) good
-      unfolding inOrder
-      whole h =
-          simp
-          (le-leb (from + 2) (length t) has-count, le-leb (countAt t from) (z .limit) (omega arith), le-leb (endOf z t from) (length t) (omega (arith, ends)))
+      pub entries-there : n * z .entry ≤ length t - from - 2 → leb (endOf z t from) (length t) ≡ true
+      entries-there h = le-leb (endOf z t from) (length t) (omega (arith, ends))
+
+      pub entries-cut : length t - from - 2 < n * z .entry → leb (endOf z t from) (length t) ≡ false
+      entries-cut h = lt-leb (endOf z t from) (length t) (omega (arith, ends))
+
+pub ruleset counting = (in-order, count-there, count-cut, count-few, count-many, entries-there, entries-cut)

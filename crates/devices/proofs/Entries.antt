@@ -2,7 +2,7 @@
 use Prim.Native.Nat.{ℕ, zero, suc, _+_, _-_, _≤_, _<_}
 use native.Mathlib.Nat.{suc-mul, mul-le-mul-right, eq-or-lt-of-le, le-of-suc-le-suc, not-suc-le-zero}
 use native.Mathlib.Omega.{arith}
-use mathlib.Core.Bool.{true}
+use mathlib.Core.Bool.{Bool, true}
 use mathlib.Core.List.{List}
 use mathlib.Core.Logic.{⊎-elim}
 use mathlib.Core.Path.{_≡_, refl, sym, ap, subst, _∙_}
@@ -26,6 +26,10 @@ module _ (z : Section) (from : ℕ) where
   pub entry-inside : (k n l : ℕ) → k < n → entryAt z from n ≤ l → entryAt z from k + z .entry ≤ l
   entry-inside k n l h fits = omega (arith, entry-next k, entry-order (suc k) n h)
 
+  -- so is the one before it
+  pub entry-before : (k l : ℕ) → entryAt z from k + z .entry ≤ l → entryAt z from (k - 1) + z .entry ≤ l
+  entry-before k l fits = omega (arith, entry-order (k - 1) k (omega arith))
+
 -- the first bytes of an entry that is there
 pub bytes-are : (z : Section) (t : List ℕ) (from k l : ℕ) → entryAt z from k + l ≤ length t → firstBytes z t from k l ≡ take l (drop (entryAt z from k) t)
 unfolding firstBytes
@@ -39,12 +43,13 @@ module _ (z : Section) (t : List ℕ) (from : ℕ) where
   first-rises zero e = refl
   first-rises (suc i) e = absurd (omega arith)
 
-  pub later-rises : (i : ℕ) → (i ≡ 0 → ⊥) → below (keyAt z t from (i - 1)) (keyAt z t from i) ≡ rises z t from i
+  pub later-rises : (i : ℕ) (x y : List ℕ) (r : Bool) → (i ≡ 0 → ⊥) → x ≡ keyAt z t from (i - 1) → y ≡ keyAt z t from i → r ≡ below x y
+      → r ≡ rises z t from i
   unfolding rises
-  later-rises zero n = absurd (n refl)
-  later-rises (suc i) n =
-      let e : suc i - 1 ≡ i = omega arith in
-      ap (λ (k : ℕ). below (keyAt z t from k) (keyAt z t from (suc i))) e
+  later-rises zero x y r n p q e = absurd (n refl)
+  later-rises (suc i) x y r n p q e =
+      let before : suc i - 1 ≡ i = omega arith in
+      e ∙ ap (λ (k : List ℕ). below k y) (p ∙ ap (keyAt z t from) before) ∙ ap (below (keyAt z t from i)) q
 
   -- where each entry rises, of any two the later stands above
   pub keys-rise : (n : ℕ) → ((k : ℕ) → k < n → rises z t from k ≡ true) → (i j : ℕ) → i < j → j < n → below (keyAt z t from i) (keyAt z t from j) ≡ true

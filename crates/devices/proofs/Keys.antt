@@ -139,11 +139,17 @@ differ x y n = by-test (same x y) refl
 pub below-differ : (x y : List ℕ) → below x y ≡ true → same x y ≡ false
 below-differ x y p = differ x y (λ e. true≢false (sym p ∙ ap (below x) (sym e) ∙ below-self x))
 
--- the loop from place i on
-module _ (x y : List ℕ) (i : ℕ) where
-  pub turn-end : length y ≤ i → below (drop i x) (drop i y) ≡ false
+-- a loop that has come to byte i of both: what is left of them decides
+pub record Level (x y : List ℕ) (i : ℕ) : Type 0 where
+  pub rest : below (drop i x) (drop i y) ≡ below x y
+
+pub level-first : (x y : List ℕ) → Level x y 0
+level-first x y = record { rest = refl }
+
+module _ (x y : List ℕ) (i : ℕ) (l : Level x y i) where
+  pub level-end : length y ≤ i → false ≡ below x y
   unfolding below
-  turn-end h = simp (drop-of-length-le y h) (none (drop i x))
+  level-end h = sym (simp (drop-of-length-le y h) (none (drop i x))) ∙ l .rest
     where
       none : (z : List ℕ) → below z [] ≡ false
       none [] = refl
@@ -153,19 +159,24 @@ module _ (x y : List ℕ) (i : ℕ) where
     y-is : drop i y ≡ getD y i 0 ∷ drop (suc i) y
     y-is = drop-cons y i 0 there
 
-    pub turn-short : length x ≤ i → below (drop i x) (drop i y) ≡ true
+    pub level-short : length x ≤ i → true ≡ below x y
     unfolding below
-    turn-short h = simp (drop-of-length-le x h, y-is)
+    level-short h = sym (simp (drop-of-length-le x h, y-is)) ∙ l .rest
 
     module _ (here : i < length x) where
       x-is : drop i x ≡ getD x i 0 ∷ drop (suc i) x
       x-is = drop-cons x i 0 here
 
-      pub turn-less : getD x i 0 < getD y i 0 → below (drop i x) (drop i y) ≡ true
-      turn-less h = simp (x-is, y-is) (head-less (getD x i 0) (getD y i 0) (drop (suc i) x) (drop (suc i) y) h)
+      pub level-less : getD x i 0 < getD y i 0 → true ≡ below x y
+      level-less h = sym (simp (x-is, y-is) (head-less (getD x i 0) (getD y i 0) (drop (suc i) x) (drop (suc i) y) h)) ∙ l .rest
 
-      pub turn-more : getD y i 0 < getD x i 0 → below (drop i x) (drop i y) ≡ false
-      turn-more h = simp (x-is, y-is) (head-more (getD x i 0) (getD y i 0) (drop (suc i) x) (drop (suc i) y) h)
+      pub level-more : getD y i 0 < getD x i 0 → false ≡ below x y
+      level-more h = sym (simp (x-is, y-is) (head-more (getD x i 0) (getD y i 0) (drop (suc i) x) (drop (suc i) y) h)) ∙ l .rest
 
-      pub turn-on : getD y i 0 ≤ getD x i 0 → getD x i 0 ≤ getD y i 0 → below (drop i x) (drop i y) ≡ below (drop (i + 1) x) (drop (i + 1) y)
-      turn-on h k = simp (x-is, y-is, add-one i) (head-same (getD x i 0) (getD y i 0) (drop (suc i) x) (drop (suc i) y) (omega arith))
+      pub level-next : getD y i 0 ≤ getD x i 0 → getD x i 0 ≤ getD y i 0 → Level x y (i + 1)
+      level-next h k =
+          let on : below (drop i x) (drop i y) ≡ below (drop (i + 1) x) (drop (i + 1) y)
+          = simp (x-is, y-is, add-one i) (head-same (getD x i 0) (getD y i 0) (drop (suc i) x) (drop (suc i) y) (omega arith)) in
+          record { rest = sym on ∙ l .rest }
+
+pub ruleset comparing = (level-first, level-end, level-short, level-less, level-more, level-next)

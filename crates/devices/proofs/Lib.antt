@@ -1,6 +1,7 @@
 pub mod Keys
 pub mod Entries
 pub mod Each
+pub mod Seeking
 pub mod Rising
 pub mod Counting
 pub mod Judging
