@@ -3,35 +3,50 @@ use Prim.Native.Nat.{ℕ, zero, suc, _+_, _-_, _≤_, _<_}
 use native.Mathlib.Nat.{eq-or-lt-of-le}
 use native.Mathlib.Numerals.{add-one}
 use native.Mathlib.Omega.{arith}
-use mathlib.Core.Bool.{true, false}
+use mathlib.Core.Bool.{true}
 use mathlib.Core.List.{List, _++_}
 use mathlib.Core.Logic.{⊎-elim}
-use mathlib.Core.Path.{_≡_, refl, ap, subst, _∙_}
-use Rattle.verdict.specs.Orders.{Test, inOrder, good, isGood, Held, refusing}
-use Rattle.verdict.proofs.Order.{joined, all-passed, joined-stays, refusing-append, held-left, held-right, held-append}
+use mathlib.Core.Path.{_≡_, refl, sym, ap, subst, _∙_}
+use Rattle.verdict.specs.declared.Verdict.{Verdict}
+use Rattle.verdict.specs.Orders.{Test, inOrder, good, Held, refusing}
+use Rattle.verdict.proofs.Walking.{in-order}
+use Rattle.verdict.proofs.Order.{joined, refusing-append, held-left, held-right, held-append}
 use Rattle.devices.specs.Sections.{eachEntry}
 
-module _ (f : ℕ → List Test) where
-  -- a loop from entry i up to n has come to the end
-  pub each-end : (i n : ℕ) → n ≤ i → inOrder (eachEntry f i (n - i)) good ≡ good
+-- a loop over n entries that has come to entry i: the tests from there on decide
+pub record Deciding (f : ℕ → List Test) (n i : ℕ) : Type 0 where
+  pub same : inOrder (eachEntry f i (n - i)) good ≡ inOrder (eachEntry f 0 n) good
+
+pub all-decide : (f : ℕ → List Test) (n : ℕ) → Deciding f n 0
+all-decide f n =
+    let all : n - 0 ≡ n = omega arith in
+    record { same = ap (λ (m : ℕ). inOrder (eachEntry f 0 m) good) all }
+
+module _ (f : ℕ → List Test) (n i : ℕ) (d : Deciding f n i) where
+  -- what the tests behind entry i come to
+  behind : Verdict
+  behind = inOrder (eachEntry f (i + 1) (n - (i + 1))) good
+
+  step : i < n → inOrder (eachEntry f i (n - i)) good ≡ inOrder (f i) behind
+  unfolding eachEntry behind
+  step h =
+      let left : n - i ≡ suc (n - (i + 1)) = omega arith in
+      let one : eachEntry f i (n - i) ≡ f i ++ eachEntry f (i + 1) (n - (i + 1)) = simp (left, add-one i) in
+      ap (λ (ts : List Test). inOrder ts good) one ∙ joined (f i) (eachEntry f (i + 1) (n - (i + 1))) good
+
+  -- an entry is refused, all are passed, or one is
+  pub refused-here : (v : Verdict) → i < n → ((w : Verdict) → v ≡ inOrder (f i) w) → v ≡ inOrder (eachEntry f 0 n) good
+  refused-here v h e = e behind ∙ sym (step h) ∙ d .same
+
+  pub none-left : (v : Verdict) → n ≤ i → v ≡ good → v ≡ inOrder (eachEntry f 0 n) good
   unfolding eachEntry inOrder
-  each-end i n h = let none : n - i ≡ 0 = omega arith in simp none
+  none-left v h e = let none : n - i ≡ 0 = omega arith in e ∙ sym (simp none) ∙ d .same
 
-  each-step : (i n : ℕ) → i < n → eachEntry f i (n - i) ≡ f i ++ eachEntry f (i + 1) (n - (i + 1))
-  unfolding eachEntry
-  each-step i n h = let left : n - i ≡ suc (n - (i + 1)) = omega arith in simp (left, add-one i)
+  pub next-decides : i < n → ((w : Verdict) → w ≡ inOrder (f i) w) → Deciding f n (i + 1)
+  unfolding behind
+  next-decides h e = record { same = e behind ∙ sym (step h) ∙ d .same }
 
-  -- it has come to an entry that is refused
-  pub each-here : (i n : ℕ) → i < n → isGood (inOrder (f i) good) ≡ false → inOrder (eachEntry f i (n - i)) good ≡ inOrder (f i) good
-  each-here i n h e =
-      ap (λ (ts : List Test). inOrder ts good) (each-step i n h) ∙ joined-stays (f i) (eachEntry f (i + 1) (n - (i + 1))) good e
-
-  -- to one that passes, and goes on
-  pub each-on : (i n : ℕ) → i < n → Held (f i) → inOrder (eachEntry f i (n - i)) good ≡ inOrder (eachEntry f (i + 1) (n - (i + 1))) good
-  each-on i n h e =
-      ap (λ (ts : List Test). inOrder ts good) (each-step i n h)
-      ∙ joined (f i) (eachEntry f (i + 1) (n - (i + 1))) good
-      ∙ all-passed (f i) (inOrder (eachEntry f (i + 1) (n - (i + 1))) good) e
+pub ruleset deciding = (in-order, all-decide, refused-here, none-left, next-decides)
 
 -- where each entry's tests refuse, all do
 pub refusing-each : (f : ℕ → List Test) → ((k : ℕ) → refusing (f k) ≡ true) → (i n : ℕ) → refusing (eachEntry f i n) ≡ true

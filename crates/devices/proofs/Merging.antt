@@ -3,14 +3,17 @@
 use Prim.Native.Nat.{ℕ, zero, suc, _+_, _-_, _≤_, _<_}
 use native.Mathlib.Numerals.{add-one}
 use native.Mathlib.Omega.{arith}
-use mathlib.Core.Bool.{true, not, _&&_}
+use mathlib.Core.Bool.{Bool, true, false, not, _&&_}
 use mathlib.Core.List.{List}
 use mathlib.Core.Path.{_≡_, refl, sym, ap, subst, _∙_}
-use lib.Dec.{ltb}
+use borrow.Author.Tests.{leb-true}
+use lib.Dec.{leb, ltb}
 use lib.ListN.{length, take, drop}
 use lib.Seq.{take-take}
 use Rattle.octets.specs.Searches.{firstFit, firstRefused}
-use Rattle.verdict.specs.Orders.{inOrder, good, isGood}
+use Rattle.octets.proofs.Flags.{on}
+use Rattle.verdict.specs.declared.Verdict.{Verdict}
+use Rattle.verdict.specs.Orders.{inOrder, refusal, good, isGood}
 use Rattle.verdict.proofs.Order.{good-held}
 use Rattle.devices.specs.declared.Section.{Section}
 use Rattle.devices.specs.Keys.{below, same}
@@ -55,15 +58,6 @@ module _ (a b : Section) (t : List ℕ) (from : ℕ) where
       ∙ ap (below (take (a .key) y)) (sym (bytes-take b t from i (b .key) (a .key) n low))
       ∙ below-take (a .key) x y up)
 
--- the walk goes on from where it stands to the first system that does not stand below part i's
-pub walk-on : (a b : Section) (t : List ℕ) (from n count at i : ℕ) → a .key ≤ b .key → b .key ≤ b .entry → i < count → entryAt b from count ≤ length t → at ≤ n
-    → Behind a b t from at i → rises b t from i ≡ true
-    → Sought (keyAt a t 0) n (systemOf a b t from i) (firstRefused (λ k. below (keyAt a t 0 k) (systemOf a b t from i)) at (n - at))
-walk-on a b t from n count at i keys whole h fits l behind up =
-    let here : entryAt b from i + b .key ≤ length t = omega (arith, entry-inside b from i count (length t) h fits) in
-    let before : entryAt b from (i - 1) + b .key ≤ length t = omega (arith, entry-order b from (i - 1) i (omega arith)) in
-    sought (keyAt a t 0) n (systemOf a b t from i) at l (behind-here a b t from at i keys here before behind up)
-
 -- whether the entry sought has the key is whether the section lists it
 module _ (z : Section) (t : List ℕ) (from n : ℕ) (counted : n ≡ countAt t from) (up : (k : ℕ) → k < n → rises z t from k ≡ true)
     (x : List ℕ) (m : ℕ) (s : Sought (keyAt z t from) n x m) where
@@ -84,3 +78,43 @@ pub systems-rise : (a : Section) (t : List ℕ) (n : ℕ) → n ≡ countAt t 0 
 systems-rise a t n c g k h =
     held-each (systemTests a t) 0 (countAt t 0) k
     (good-held (systemsTests a t) good (refusing-each (systemTests a t) (λ j. refl) 0 (countAt t 0)) g .0) (omega arith) (omega arith) .0
+
+-- where the walk along n systems stands as the loop over the parts comes to part i
+pub record Walk (a b : Section) (t : List ℕ) (from n at i : ℕ) : Type 0 where
+  pub most : at ≤ n
+  pub behind : Behind a b t from at i
+
+pub walk-first : (a b : Section) (t : List ℕ) (from n : ℕ) → Walk a b t from n 0 0
+walk-first a b t from n = record { most = omega arith; behind = behind-first a b t from }
+
+-- what is known of part i where it rises, the walk went on to system m for it, and r answers whether m is the part's system
+pub record Met (a b : Section) (t : List ℕ) (from n i m : ℕ) (r : Bool) : Type 0 where
+  pub up : rises b t from i ≡ true
+  pub owned : r ≡ isListed a t 0 (systemOf a b t from i)
+  pub next : Walk a b t from n m (i + 1)
+
+pub meets : (a b : Section) (t : List ℕ) (from n count at i : ℕ) (x : List ℕ) (m : ℕ) (q r : Bool)
+    → leb (a .key) (b .key) ≡ true → leb (b .key) (b .entry) ≡ true → n ≡ countAt t 0 → isGood (inOrder (systemsTests a t) good) ≡ true
+    → entryAt b from count ≤ length t → Walk a b t from n at i → i < count → q ≡ rises b t from i → not q ≡ false
+    → x ≡ systemOf a b t from i → m ≡ firstRefused (λ k. below (keyAt a t 0 k) x) at (n - at) → r ≡ ltb m n && not (below x (keyAt a t 0 m))
+    → Met a b t from n i m r
+meets a b t from n count at i x m q r keys keyed counted rose fits w h rising up system reached told =
+    let whole : b .key ≤ b .entry = leb-true (b .key) (b .entry) keyed in
+    let here : entryAt b from i + b .key ≤ length t = omega (arith, entry-inside b from i count (length t) h fits) in
+    let before : entryAt b from (i - 1) + b .key ≤ length t = omega (arith, entry-order b from (i - 1) i (omega arith)) in
+    let y = systemOf a b t from i in
+    let s : Sought (keyAt a t 0) n y m = subst (Sought (keyAt a t 0) n y) (sym (reached ∙ ap (λ (z : List ℕ). firstRefused (λ k. below (keyAt a t 0 k) z) at (n - at)) system))
+    (sought (keyAt a t 0) n y at (w .most) (behind-here a b t from at i (leb-true (a .key) (b .key) keys) here before (w .behind) (on rising up))) in
+    record {
+      up = on rising up;
+      owned =
+          told ∙ ap (λ (z : List ℕ). ltb m n && not (below z (keyAt a t 0 m))) system
+          ∙ listed-is a t 0 n counted (systems-rise a t n counted rose) y m s;
+      next = record { most = s .most; behind = behind-next a b t from m i (s .before) };
+    }
+
+-- "parts numbered on after the systems", of which there are n
+pub numbered-on : (t : List ℕ) (v : Verdict) (number n i : ℕ) → n ≡ countAt t 0 → v ≡ refusal number (n + i) → v ≡ refusal number (countAt t 0 + i)
+numbered-on t v number n i c e = e ∙ ap (λ (k : ℕ). refusal number (k + i)) c
+
+pub ruleset merging = (walk-first, numbered-on)
