@@ -1,12 +1,14 @@
 -- The judge of a whole table, part by part of its order: what is known behind the systems' count and size, behind their order, and behind
--- the parts' count and size. One law for each answer. Assumes nothing.
+-- the parts' count and size. One law for each answer j, where v is the verdict that was asked for and g whether it was found good. Assumes nothing.
 use Prim.Native.Nat.{ℕ, _≤_, _<_}
 use native.Mathlib.Omega.{arith}
-use mathlib.Core.Bool.{true, false}
+use mathlib.Core.Bool.{Bool, true, false, not}
 use mathlib.Core.List.{List, [], _∷_, _++_}
 use mathlib.Core.Path.{_≡_, refl, sym, ap, subst, _∙_}
 use borrow.Author.Tests.{leb-true, le-leb, lt-leb}
-use lib.ListN.{length}
+use lib.ListN.{length, take, drop}
+use Rattle.octets.specs.Numbers.{lowFirst}
+use Rattle.octets.proofs.Flags.{on, off}
 use Rattle.verdict.specs.declared.Verdict.{Verdict}
 use Rattle.verdict.specs.Orders.{Test, inOrder, refusal, good, isGood}
 use Rattle.verdict.specs.Refusals.{TAIL}
@@ -58,99 +60,108 @@ module _ (a b : Section) (t : List ℕ) where
 
   -- behind CUT, MANY and CUT of n parts
   pub record Third (s from n : ℕ) : Type 0 where
-    pub counted : s ≡ countAt t 0
-    pub starts : from ≡ partsFrom a t
+    pub second : Second s from
     pub listed : n ≡ countAt t (partsFrom a t)
     pub fits : entryAt b from n ≤ length t
     past : judged a b t ≡ inOrder behindThird good
 
-  module _ (v : Verdict) (e : v ≡ inOrder (sectionTests a t 0) good) where
+  -- an order's verdict v that was not good decides
+  refuses : (ts us : List Test) (v : Verdict) (g : Bool) (j : Judgement) → judged a b t ≡ inOrder (ts ++ us) good → v ≡ inOrder ts good
+      → g ≡ isGood v → not g ≡ true → j ≡ refusedBy v → j ≡ judgement a b t
+  refuses ts us v g j whole here e f r =
+      r ∙ judgement-refused v (decides ts us v (judged a b t) whole here (off e f)) (off e f)
+
+  module _ (v : Verdict) (g : Bool) (e : v ≡ inOrder (sectionTests a t 0) good) (is : g ≡ isGood v) where
     from-start : judged a b t ≡ inOrder (sectionTests a t 0 ++ behindFirst) good
     unfolding judged behindFirst behindSystems
     from-start = refl
 
-    pub first-refused : isGood v ≡ false → refusedBy v ≡ judgement a b t
-    first-refused g = judgement-refused v (decides (sectionTests a t 0) behindFirst v (judged a b t) from-start e g) g
+    pub first-refused : (j : Judgement) → not g ≡ true → j ≡ refusedBy v → j ≡ judgement a b t
+    first-refused j f r = refuses (sectionTests a t 0) behindFirst v g j from-start e is f r
 
-    pub first-passed : (s : ℕ) → isGood v ≡ true → s ≡ countAt t 0 → First s
-    first-passed s g c = record {
+    pub first-passed : (s : ℕ) → not g ≡ false → s ≡ lowFirst (take 2 (drop 0 t)) → First s
+    unfolding countAt
+    first-passed s f c = record {
       counted = c;
-      fits = section-fits a t 0 s c (ap isGood (sym e) ∙ g);
-      past = goes-past (sectionTests a t 0) behindFirst v (judged a b t) from-start e refl g;
+      fits = section-fits a t 0 s c (ap isGood (sym e) ∙ on is f);
+      past = goes-past (sectionTests a t 0) behindFirst v (judged a b t) from-start e refl (on is f);
     }
 
-  module _ (s : ℕ) (f : First s) (v : Verdict) (e : v ≡ inOrder (eachEntry (systemTests a t) 0 s) good) where
+  module _ (s : ℕ) (k : First s) (v : Verdict) (g : Bool) (e : v ≡ inOrder (eachEntry (systemTests a t) 0 s) good) (is : g ≡ isGood v) where
     rising : v ≡ inOrder (systemsTests a t) good
-    rising = e ∙ ap (λ (n : ℕ). inOrder (eachEntry (systemTests a t) 0 n) good) (f .counted)
+    rising = e ∙ ap (λ (n : ℕ). inOrder (eachEntry (systemTests a t) 0 n) good) (k .counted)
 
     from-systems : judged a b t ≡ inOrder (systemsTests a t ++ behindSystems a b t) good
     unfolding behindFirst
-    from-systems = f .past
+    from-systems = k .past
 
-    pub second-refused : isGood v ≡ false → refusedBy v ≡ judgement a b t
-    second-refused g = judgement-refused v (decides (systemsTests a t) (behindSystems a b t) v (judged a b t) from-systems rising g) g
+    pub second-refused : (j : Judgement) → not g ≡ true → j ≡ refusedBy v → j ≡ judgement a b t
+    second-refused j f r = refuses (systemsTests a t) (behindSystems a b t) v g j from-systems rising is f r
 
-    pub second-passed : (from : ℕ) → isGood v ≡ true → from ≡ entryAt a 0 s → Second s from
-    second-passed from g starts = record {
-      counted = f .counted;
-      rose = ap isGood (sym rising) ∙ g;
-      starts = starts ∙ ap (entryAt a 0) (f .counted);
+    pub second-passed : (from : ℕ) → not g ≡ false → from ≡ entryAt a 0 s → Second s from
+    second-passed from f starts = record {
+      counted = k .counted;
+      rose = ap isGood (sym rising) ∙ on is f;
+      starts = starts ∙ ap (entryAt a 0) (k .counted);
       follows = omega arith;
-      inside = omega (arith, f .fits);
+      inside = omega (arith, k .fits);
       past =
-          goes-past (systemsTests a t) (behindSystems a b t) v (judged a b t) from-systems rising (refusing-each (systemTests a t) (λ k. refl) 0 (countAt t 0)) g;
+          goes-past (systemsTests a t) (behindSystems a b t) v (judged a b t) from-systems rising (refusing-each (systemTests a t) (λ k. refl) 0 (countAt t 0)) (on is f);
     }
 
-  module _ (s from : ℕ) (f : Second s from) (v : Verdict) (e : v ≡ inOrder (sectionTests b t from) good) where
+  module _ (s from : ℕ) (k : Second s from) (v : Verdict) (g : Bool) (e : v ≡ inOrder (sectionTests b t from) good) (is : g ≡ isGood v) where
     sized : v ≡ inOrder (sectionTests b t (partsFrom a t)) good
-    sized = e ∙ ap (λ (p : ℕ). inOrder (sectionTests b t p) good) (f .starts)
+    sized = e ∙ ap (λ (p : ℕ). inOrder (sectionTests b t p) good) (k .starts)
 
     from-count : judged a b t ≡ inOrder (sectionTests b t (partsFrom a t) ++ behindThird) good
     unfolding behindSystems behindThird
-    from-count = f .past
+    from-count = k .past
 
-    pub third-refused : isGood v ≡ false → refusedBy v ≡ judgement a b t
-    third-refused g = judgement-refused v (decides (sectionTests b t (partsFrom a t)) behindThird v (judged a b t) from-count sized g) g
+    pub third-refused : (j : Judgement) → not g ≡ true → j ≡ refusedBy v → j ≡ judgement a b t
+    third-refused j f r = refuses (sectionTests b t (partsFrom a t)) behindThird v g j from-count sized is f r
 
-    pub third-passed : (n : ℕ) → isGood v ≡ true → n ≡ countAt t from → Third s from n
-    third-passed n g c = record {
-      counted = f .counted;
-      starts = f .starts;
-      listed = c ∙ ap (countAt t) (f .starts);
-      fits = section-fits b t from n c (ap isGood (sym e) ∙ g);
-      past = goes-past (sectionTests b t (partsFrom a t)) behindThird v (judged a b t) from-count sized refl g;
+    pub third-passed : (n : ℕ) → not g ≡ false → n ≡ lowFirst (take 2 (drop from t)) → Third s from n
+    unfolding countAt
+    third-passed n f c = record {
+      second = k;
+      listed = c ∙ ap (countAt t) (k .starts);
+      fits = section-fits b t from n c (ap isGood (sym e) ∙ on is f);
+      past = goes-past (sectionTests b t (partsFrom a t)) behindThird v (judged a b t) from-count sized refl (on is f);
     }
 
-  module _ (s from n : ℕ) (f : Third s from n) (v : Verdict) (e : v ≡ inOrder (eachEntry (partTests a b t from) 0 n) good) where
+  module _ (s from n : ℕ) (k : Third s from n) (v : Verdict) (g : Bool) (e : v ≡ inOrder (eachEntry (partTests a b t from) 0 n) good) (is : g ≡ isGood v) where
     owned : v ≡ inOrder (partsTests a b t) good
     owned =
         e
-        ∙ ap (λ (p : ℕ). inOrder (eachEntry (partTests a b t p) 0 n) good) (f .starts)
-        ∙ ap (λ (m : ℕ). inOrder (eachEntry (partTests a b t (partsFrom a t)) 0 m) good) (f .listed)
+        ∙ ap (λ (p : ℕ). inOrder (eachEntry (partTests a b t p) 0 n) good) (k .second .starts)
+        ∙ ap (λ (m : ℕ). inOrder (eachEntry (partTests a b t (partsFrom a t)) 0 m) good) (k .listed)
 
     from-parts : judged a b t ≡ inOrder (partsTests a b t ++ (tailTest a b t ∷ [])) good
     unfolding behindThird
-    from-parts = f .past
+    from-parts = k .past
 
-    pub fourth-refused : isGood v ≡ false → refusedBy v ≡ judgement a b t
-    fourth-refused g = judgement-refused v (decides (partsTests a b t) (tailTest a b t ∷ []) v (judged a b t) from-parts owned g) g
+    pub fourth-refused : (j : Judgement) → not g ≡ true → j ≡ refusedBy v → j ≡ judgement a b t
+    fourth-refused j f r = refuses (partsTests a b t) (tailTest a b t ∷ []) v g j from-parts owned is f r
 
-    module _ (g : isGood v ≡ true) (end : ℕ) (ends : end ≡ entryAt b from n) where
+    module _ (f : not g ≡ false) (end : ℕ) (ends : end ≡ entryAt b from n) where
       from-tail : judged a b t ≡ inOrder (tailTest a b t ∷ []) good
       from-tail =
           goes-past (partsTests a b t) (tailTest a b t ∷ []) v (judged a b t) from-parts owned
-          (refusing-each (partTests a b t (partsFrom a t)) (λ k. refl) 0 (countAt t (partsFrom a t))) g
+          (refusing-each (partTests a b t (partsFrom a t)) (λ k. refl) 0 (countAt t (partsFrom a t))) (on is f)
 
       end-is : end ≡ endOf b t (partsFrom a t)
-      end-is = ends ∙ ap (λ (p : ℕ). entryAt b p n) (f .starts) ∙ ap (entryAt b (partsFrom a t)) (f .listed)
+      end-is = ends ∙ ap (λ (p : ℕ). entryAt b p n) (k .second .starts) ∙ ap (entryAt b (partsFrom a t)) (k .listed)
 
-      pub tail-refused : end < length t → refusedBy (refusal TAIL 0) ≡ judgement a b t
-      tail-refused h =
-          let w : judged a b t ≡ refusal TAIL 0 = from-tail ∙ failed (tailTest a b t) [] good (lt-leb (length t) (endOf b t (partsFrom a t)) (omega (arith, end-is))) in
-          judgement-refused (refusal TAIL 0) (sym w) refl
+      pub tail-refused : (w : Verdict) (j : Judgement) → end < length t → w ≡ refusal TAIL 0 → j ≡ refusedBy w → j ≡ judgement a b t
+      tail-refused w j h is-tail r =
+          let tail : judged a b t ≡ refusal TAIL 0 = from-tail ∙ failed (tailTest a b t) [] good (lt-leb (length t) (endOf b t (partsFrom a t)) (omega (arith, end-is))) in
+          r ∙ ap refusedBy is-tail ∙ judgement-refused (refusal TAIL 0) (sym tail) refl
 
-      pub all-passed : length t ≤ end → _≡_ {A = Judgement} (record { verdict = good; systems = s; parts = n }) (judgement a b t)
+      pub all-passed : (j : Judgement) → length t ≤ end → j .verdict ≡ good → j .systems ≡ s → j .parts ≡ n → j ≡ judgement a b t
       unfolding inOrder
-      all-passed h =
-          let w : judged a b t ≡ good = from-tail ∙ passed (tailTest a b t) [] good (le-leb (length t) (endOf b t (partsFrom a t)) (omega (arith, end-is))) in
-          (λ i. record { verdict = good; systems = f .counted i; parts = f .listed i }) ∙ judgement-good w
+      all-passed j h p q r =
+          let whole : judged a b t ≡ good = from-tail ∙ passed (tailTest a b t) [] good (le-leb (length t) (endOf b t (partsFrom a t)) (omega (arith, end-is))) in
+          (λ i. record { verdict = p i; systems = (q ∙ k .second .counted) i; parts = (r ∙ k .listed) i }) ∙ judgement-good whole
+
+pub ruleset stages =
+    (first-refused, first-passed, second-refused, second-passed, third-refused, third-passed, fourth-refused, tail-refused, all-passed)
