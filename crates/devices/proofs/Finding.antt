@@ -9,6 +9,8 @@ use borrow.Author.Tests.{ltb-true}
 use lib.Dec.{ltb}
 use lib.ListN.{length}
 use Rattle.octets.specs.Searches.{firstRefused}
+use Rattle.octets.proofs.Flags.{on, off}
+use Rattle.verdict.specs.declared.Verdict.{Verdict}
 use Rattle.verdict.specs.declared.Part.{Part}
 use Rattle.verdict.specs.Orders.{inOrder, refusal, good, isGood, refusing, noPart, partBy}
 use Rattle.verdict.specs.Refusals.{UNLISTED}
@@ -85,67 +87,89 @@ pub record Judged (a b : Section) (t : List ℕ) (j : Judgement) (from : ℕ) : 
   pub rise : (k : ℕ) → k < j .parts → rises b t from k ≡ true
   pub ends : entryAt b from (j .parts) ≤ length t
 
--- what is known of a search that ended at entry m, where it was asked whether that entry has the key
-pub record Answered (a b : Section) (t x : List ℕ) (from m : ℕ) (r : Bool) : Type 0 where
-  pub listed : isListed b t (partsFrom a t) x ≡ r
-  pub inside : r ≡ true → entryAt b from m + b .entry ≤ length t
-  pub there : r ≡ true → entryOf b t (partsFrom a t) x ≡ m
+-- what is known where the search for key x ended at entry m, which has it
+pub record Listed (a b : Section) (t x : List ℕ) (j : Judgement) (from m : ℕ) : Type 0 where
+  pub known : Judged a b t j from
+  pub listed : isListed b t (partsFrom a t) x ≡ true
+  pub inside : entryAt b from m + b .entry ≤ length t
+  pub there : entryOf b t (partsFrom a t) x ≡ m
 
-module _ (a b : Section) (t x : List ℕ) (j : Judgement) (e : j ≡ judgement a b t) where
+-- the judge's answer j, and g whether its verdict was found good
+module _ (a b : Section) (t : List ℕ) (j : Judgement) (g : Bool) (e : j ≡ judgement a b t) (is : g ≡ isGood (j .verdict)) where
   verdict-is : j .verdict ≡ judged a b t
   verdict-is = judgement-told a b t j e .0
 
-  pub found-refused : isGood (j .verdict) ≡ false → noPart (j .verdict) ≡ foundPlace a b t x
-  found-refused g = ap noPart verdict-is ∙ place-refused a b t x (ap isGood (sym verdict-is) ∙ g)
+  pub found-refused : (x : List ℕ) (p : Part) → not g ≡ true → p ≡ noPart (j .verdict) → p ≡ foundPlace a b t x
+  found-refused x p f r = r ∙ ap noPart verdict-is ∙ place-refused a b t x (ap isGood (sym verdict-is) ∙ off is f)
 
-module _ (a b : Section) (t : List ℕ) (j : Judgement) (e : j ≡ judgement a b t) (g : isGood (j .verdict) ≡ true) where
-  passed-it : isGood (judged a b t) ≡ true
-  passed-it = ap isGood (sym (judgement-told a b t j e .0)) ∙ g
+  module _ (f : not g ≡ false) where
+    passed-it : isGood (judged a b t) ≡ true
+    passed-it = ap isGood (sym verdict-is) ∙ on is f
 
-  counts : (j .systems ≡ countAt t 0) × (j .parts ≡ countAt t (partsFrom a t))
-  counts = judgement-told a b t j e .1 passed-it
+    counts : (j .systems ≡ countAt t 0) × (j .parts ≡ countAt t (partsFrom a t))
+    counts = judgement-told a b t j e .1 passed-it
 
-  pub systems-end : entryAt a 0 (j .systems) ≤ length t
-  systems-end = subst (λ (n : ℕ). entryAt a 0 n ≤ length t) (sym (counts .0)) (good-sound a b t passed-it .systems .fits)
+    pub systems-end : entryAt a 0 (j .systems) ≤ length t
+    systems-end = subst (λ (n : ℕ). entryAt a 0 n ≤ length t) (sym (counts .0)) (good-sound a b t passed-it .systems .fits)
 
-  pub judged-good : (from : ℕ) → from ≡ entryAt a 0 (j .systems) → Judged a b t j from
-  judged-good from begins =
-      let s = good-sound a b t passed-it in
-      let p : from ≡ partsFrom a t = begins ∙ ap (entryAt a 0) (counts .0) in
+    pub judged-good : (from : ℕ) → from ≡ entryAt a 0 (j .systems) → Judged a b t j from
+    judged-good from begins =
+        let s = good-sound a b t passed-it in
+        let p : from ≡ partsFrom a t = begins ∙ ap (entryAt a 0) (counts .0) in
+        record {
+          verdict = verdict-is ∙ good-one a b t passed-it;
+          passes = passed-it;
+          starts = p;
+          counted = counts .1 ∙ ap (countAt t) (sym p);
+          rise = λ k h. subst (λ (q : ℕ). rises b t q k ≡ true) (sym p) (s .parts .rise k (subst (λ (n : ℕ). k < n) (counts .1) h));
+          ends =
+              subst (λ (q : ℕ). entryAt b q (j .parts) ≤ length t) (sym p)
+              (subst (λ (n : ℕ). entryAt b (partsFrom a t) n ≤ length t) (sym (counts .1)) (s .parts .fits));
+        }
+
+-- the search for key x ended at entry m, and r answers whether that entry has it
+module _ (a b : Section) (t x y : List ℕ) (j : Judgement) (from m : ℕ) (r : Bool) (k : Judged a b t j from) (key : y ≡ x)
+    (ended : m ≡ firstRefused (λ i. below (keyAt b t from i) y) 0 (j .parts - 0))
+    (asked : r ≡ ltb m (j .parts) && not (below y (keyAt b t from m))) where
+  reached : Sought (keyAt b t from) (j .parts) x m
+  reached =
+      subst (Sought (keyAt b t from) (j .parts) x) (sym (ended ∙ ap (λ (z : List ℕ). firstRefused (λ i. below (keyAt b t from i) z) 0 (j .parts - 0)) key))
+      (sought (keyAt b t from) (j .parts) x 0 (omega arith) (λ i h. absurd (not-suc-le-zero h)))
+
+  has-key : r ≡ ltb m (j .parts) && not (below x (keyAt b t from m))
+  has-key = asked ∙ ap (λ (z : List ℕ). ltb m (j .parts) && not (below z (keyAt b t from m))) key
+
+  is-listed : isListed b t (partsFrom a t) x ≡ r
+  is-listed =
+      ap (λ (p : ℕ). isListed b t p x) (sym (k .starts))
+      ∙ sym (has-key ∙ listed-is b t from (j .parts) (k .counted) (k .rise) x m reached)
+
+  pub unlisted : (v : Verdict) (p : Part) → not r ≡ true → v ≡ refusal UNLISTED 0 → p ≡ noPart v → p ≡ foundPlace a b t x
+  unlisted v p f u e = e ∙ ap noPart u ∙ place-unlisted a b t x (k .passes) (off (sym is-listed) f)
+
+  pub listed-there : not r ≡ false → Listed a b t x j from m
+  listed-there f =
+      let yes : ltb m (j .parts) && not (below x (keyAt b t from m)) ≡ true = on has-key f in
       record {
-        verdict = judgement-told a b t j e .0 ∙ good-one a b t passed-it;
-        passes = passed-it;
-        starts = p;
-        counted = counts .1 ∙ ap (countAt t) (sym p);
-        rise = λ k h. subst (λ (q : ℕ). rises b t q k ≡ true) (sym p) (s .parts .rise k (subst (λ (n : ℕ). k < n) (counts .1) h));
-        ends =
-            subst (λ (q : ℕ). entryAt b q (j .parts) ≤ length t) (sym p)
-            (subst (λ (n : ℕ). entryAt b (partsFrom a t) n ≤ length t) (sym (counts .1)) (s .parts .fits));
-      }
-
-module _ (a b : Section) (t x : List ℕ) (j : Judgement) (from : ℕ) (k : Judged a b t j from) (m : ℕ) (r : Bool) where
-  pub answered : m ≡ firstRefused (λ i. below (keyAt b t from i) x) 0 (j .parts - 0) → r ≡ ltb m (j .parts) && not (below x (keyAt b t from m))
-      → Answered a b t x from m r
-  answered ended asked =
-      let s : Sought (keyAt b t from) (j .parts) x m =
-      subst (Sought (keyAt b t from) (j .parts) x) (sym ended) (sought (keyAt b t from) (j .parts) x 0 (omega arith) (λ i h. absurd (not-suc-le-zero h))) in
-      record {
-        listed =
-            ap (λ (p : ℕ). isListed b t p x) (sym (k .starts))
-            ∙ sym (asked ∙ listed-is b t from (j .parts) (k .counted) (k .rise) x m s);
-        inside = λ f.
+        known = k;
+        listed = on (sym is-listed) f;
+        inside =
             entry-inside b from m (j .parts) (length t)
-            (ltb-true m (j .parts) (and-eq-true-iff (ltb m (j .parts)) (not (below x (keyAt b t from m))) .0 (sym asked ∙ f) .0)) (k .ends);
-        there = λ f.
-            ap (λ (p : ℕ). entryOf b t p x) (sym (k .starts)) ∙ entry-is b t from (j .parts) (k .counted) (k .rise) x m s (sym asked ∙ f);
+            (ltb-true m (j .parts) (and-eq-true-iff (ltb m (j .parts)) (not (below x (keyAt b t from m))) .0 yes .0)) (k .ends);
+        there =
+            ap (λ (p : ℕ). entryOf b t p x) (sym (k .starts)) ∙ entry-is b t from (j .parts) (k .counted) (k .rise) x m reached yes;
       }
 
-  module _ (q : Answered a b t x from m r) where
-    pub unlisted : r ≡ false → noPart (refusal UNLISTED 0) ≡ foundPlace a b t x
-    unlisted f = place-unlisted a b t x (k .passes) (q .listed ∙ f)
+pub found-there : (a b : Section) (t x : List ℕ) (j : Judgement) (from m at : ℕ) (p : Part) → Listed a b t x j from m → at ≡ entryAt b from m
+    → p .verdict ≡ j .verdict → p .from ≡ at + b .key → p .to ≡ at + b .entry → p ≡ foundPlace a b t x
+found-there a b t x j from m at p l stands u v w =
+    let k = l .known in
+    let s : at ≡ partAt a b t x = stands ∙ ap (λ (q : ℕ). entryAt b q m) (k .starts) ∙ ap (entryAt b (partsFrom a t)) (sym (l .there)) in
+    (λ i. record {
+      verdict = (u ∙ k .verdict) i;
+      from = (v ∙ ap (λ (q : ℕ). q + b .key) s) i;
+      to = (w ∙ ap (λ (q : ℕ). q + b .entry) s) i;
+    })
+    ∙ place-listed a b t x (k .passes) (l .listed)
 
-    pub found-there : r ≡ true → (at : ℕ) → at ≡ entryAt b from m
-        → _≡_ {A = Part} (record { verdict = j .verdict; from = at + b .key; to = at + b .entry }) (foundPlace a b t x)
-    found-there f at stands =
-        let s : at ≡ partAt a b t x = stands ∙ ap (λ (p : ℕ). entryAt b p m) (k .starts) ∙ ap (entryAt b (partsFrom a t)) (sym (q .there f)) in
-        (λ i. record { verdict = k .verdict i; from = s i + b .key; to = s i + b .entry }) ∙ place-listed a b t x (k .passes) (q .listed ∙ f)
+pub ruleset finding = (found-refused, systems-end, judged-good, unlisted, listed-there, found-there)
