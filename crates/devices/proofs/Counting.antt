@@ -13,6 +13,13 @@ use Rattle.verdict.proofs.Walking.{in-order}
 use Rattle.devices.specs.declared.Section.{Section}
 use Rattle.devices.specs.Sections.{countAt, entryAt, endOf}
 
+-- what the entries take is counted without overflow
+pub product-fits : (m n : ℕ) → m < 65536 → n < 65536 → m * n < 18446744073709551616
+product-fits m n p q =
+    let x : m ≤ 65535 = omega arith in
+    let y : n ≤ 65535 = omega arith in
+    omega (arith, mul-le-mul x y)
+
 module _ (t : List ℕ) (from : ℕ) where
   pub count-there : from ≤ length t → 2 ≤ length t - from → leb (from + 2) (length t) ≡ true
   count-there b h = le-leb (from + 2) (length t) (omega arith)

@@ -7,6 +7,7 @@ use mathlib.Core.List.{List}
 use mathlib.Core.Logic.{⊎-elim}
 use mathlib.Core.Path.{_≡_, refl, sym, ap, subst, _∙_}
 use lib.ListN.{length, take, drop}
+use Rattle.octets.specs.Parts.{part}
 use Rattle.octets.proofs.Parts.{part-is}
 use Rattle.devices.specs.declared.Section.{Section}
 use Rattle.devices.specs.Keys.{below}
@@ -30,12 +31,24 @@ module _ (z : Section) (from : ℕ) where
   pub entry-before : (k l : ℕ) → entryAt z from k + z .entry ≤ l → entryAt z from (k - 1) + z .entry ≤ l
   entry-before k l fits = omega (arith, entry-order (k - 1) k (omega arith))
 
+-- systems before parts that are there are there
+pub end-before : (a b : Section) (from m n l : ℕ) → entryAt a 0 m ≤ from → entryAt b from n ≤ l → entryAt a 0 m ≤ l
+unfolding entryAt
+end-before a b from m n l p q = omega arith
+
 -- the first bytes of an entry that is there
 pub bytes-are : (z : Section) (t : List ℕ) (from k l : ℕ) → entryAt z from k + l ≤ length t → firstBytes z t from k l ≡ take l (drop (entryAt z from k) t)
 unfolding firstBytes
 bytes-are z t from k l h =
     let e : entryAt z from k + l - entryAt z from k ≡ l = omega arith in
     part-is t (entryAt z from k) (entryAt z from k + l) (omega arith) h ∙ ap (λ (j : ℕ). take j (drop (entryAt z from k) t)) e
+
+-- and as the code cuts them out, from where the entry was found to stand
+pub bytes-cut : (z : Section) (t : List ℕ) (from k l at : ℕ) → at ≡ entryAt z from k → entryAt z from k + z .entry ≤ length t → l ≤ z .entry
+    → take (at + l - at) (drop at t) ≡ firstBytes z t from k l
+unfolding firstBytes
+bytes-cut z t from k l at e fits few =
+    sym (part-is t at (at + l) (omega arith) (omega arith)) ∙ ap (λ (j : ℕ). part t j (j + l)) e
 
 module _ (z : Section) (t : List ℕ) (from : ℕ) where
   pub first-rises : (i : ℕ) → i ≡ 0 → true ≡ rises z t from i

@@ -39,7 +39,8 @@ module _ (a b : Section) (t : List ℕ) where
       let h1 = good-held (sectionTests a t 0) (inOrder rest1 good) refl (ap isGood (sym (joined (sectionTests a t 0) rest1 good)) ∙ g) in
       let h2 = good-held (systemsTests a t) (inOrder rest2 good) (refusing-each (systemTests a t) (λ k. refl) 0 (countAt t 0)) (ap isGood (sym (joined (systemsTests a t) rest2 good)) ∙ h1 .1) in
       let h3 = good-held (sectionTests b t p) (inOrder rest3 good) refl (ap isGood (sym (joined (sectionTests b t p) rest3 good)) ∙ h2 .1) in
-      let h4 = good-held (partsTests a b t) (inOrder (tailTest a b t ∷ []) good) (refusing-each (partTests a b t p) (λ k. refl) 0 (countAt t p)) (ap isGood (sym (joined (partsTests a b t) (tailTest a b t ∷ []) good)) ∙ h3 .1) in
+      let h4 = good-held (partsTests a b t) (inOrder (tailTest a b t ∷ []) good) (refusing-each (partTests a b t p) (λ k. refl) 0 (countAt t p))
+      (ap isGood (sym (joined (partsTests a b t) (tailTest a b t ∷ []) good)) ∙ h3 .1) in
       let h5 = good-held (tailTest a b t ∷ []) good refl (h4 .1) in
       let fits3 : endOf b t p ≤ length t = leb-true (endOf b t p) (length t) (h3 .0 .1 .1 .0) in
       record {

@@ -4,7 +4,6 @@ pub mod Each
 pub mod Seeking
 pub mod Rising
 pub mod Counting
-pub mod Judging
 pub mod Merging
 pub mod Stages
 pub mod Good

@@ -1,5 +1,5 @@
 -- The judge of a whole table, part by part of its order: what is known behind the systems' count and size, behind their order, and behind
--- the parts' count and size. One law for each answer j, where v is the verdict that was asked for and g whether it was found good. Assumes nothing.
+-- the parts' count and size. One law for each answer j, where a call answered v and g is whether that was good. Assumes nothing.
 use Prim.Native.Nat.{ℕ, _≤_, _<_}
 use native.Mathlib.Omega.{arith}
 use mathlib.Core.Bool.{Bool, true, false, not}
@@ -10,15 +10,14 @@ use lib.ListN.{length, take, drop}
 use Rattle.octets.specs.Numbers.{lowFirst}
 use Rattle.octets.proofs.Flags.{on, off}
 use Rattle.verdict.specs.declared.Verdict.{Verdict}
-use Rattle.verdict.specs.Orders.{Test, inOrder, refusal, good, isGood}
+use Rattle.verdict.specs.Orders.{Test, inOrder, refusal, good, isGood, refusing}
 use Rattle.verdict.specs.Refusals.{TAIL}
-use Rattle.verdict.proofs.Order.{passed, failed, good-held}
+use Rattle.verdict.proofs.Order.{passed, failed, good-held, joined-stays, joined-on}
 use Rattle.devices.specs.declared.Section.{Section}
 use Rattle.devices.specs.declared.Judgement.{Judgement}
 use Rattle.devices.specs.Sections.{countAt, entryAt, endOf, sectionTests, eachEntry}
 use Rattle.devices.specs.Tables.{partsFrom, systemTests, systemsTests, partTests, partsTests, tailTest, judged, refusedBy, judgement}
 use Rattle.devices.proofs.Each.{refusing-each}
-use Rattle.devices.proofs.Judging.{decides, goes-past}
 use Rattle.devices.proofs.Good.{behindSystems}
 
 -- a section that passed is there to its end
@@ -65,11 +64,14 @@ module _ (a b : Section) (t : List ℕ) where
     pub fits : entryAt b from n ≤ length t
     past : judged a b t ≡ inOrder behindThird good
 
-  -- an order's verdict v that was not good decides
-  refuses : (ts us : List Test) (v : Verdict) (g : Bool) (j : Judgement) → judged a b t ≡ inOrder (ts ++ us) good → v ≡ inOrder ts good
-      → g ≡ isGood v → not g ≡ true → j ≡ refusedBy v → j ≡ judgement a b t
-  refuses ts us v g j whole here e f r =
-      r ∙ judgement-refused v (decides ts us v (judged a b t) whole here (off e f)) (off e f)
+  -- a part of the order whose verdict v was not good decides, and one that was passed leaves what comes after it
+  module _ (ts us : List Test) (v : Verdict) (g : Bool) (whole : judged a b t ≡ inOrder (ts ++ us) good) (here : v ≡ inOrder ts good) (is : g ≡ isGood v) where
+    refuses : (j : Judgement) → not g ≡ true → j ≡ refusedBy v → j ≡ judgement a b t
+    refuses j f r =
+        r ∙ judgement-refused v (here ∙ sym (joined-stays ts us good (ap isGood (sym here) ∙ off is f)) ∙ sym whole) (off is f)
+
+    passes : refusing ts ≡ true → not g ≡ false → judged a b t ≡ inOrder us good
+    passes n f = whole ∙ joined-on ts us good n (ap isGood (sym here) ∙ on is f)
 
   module _ (v : Verdict) (g : Bool) (e : v ≡ inOrder (sectionTests a t 0) good) (is : g ≡ isGood v) where
     from-start : judged a b t ≡ inOrder (sectionTests a t 0 ++ behindFirst) good
@@ -77,14 +79,14 @@ module _ (a b : Section) (t : List ℕ) where
     from-start = refl
 
     pub first-refused : (j : Judgement) → not g ≡ true → j ≡ refusedBy v → j ≡ judgement a b t
-    first-refused j f r = refuses (sectionTests a t 0) behindFirst v g j from-start e is f r
+    first-refused j f r = refuses (sectionTests a t 0) behindFirst v g from-start e is j f r
 
     pub first-passed : (s : ℕ) → not g ≡ false → s ≡ lowFirst (take 2 (drop 0 t)) → First s
     unfolding countAt
     first-passed s f c = record {
       counted = c;
       fits = section-fits a t 0 s c (ap isGood (sym e) ∙ on is f);
-      past = goes-past (sectionTests a t 0) behindFirst v (judged a b t) from-start e refl (on is f);
+      past = passes (sectionTests a t 0) behindFirst v g from-start e is refl f;
     }
 
   module _ (s : ℕ) (k : First s) (v : Verdict) (g : Bool) (e : v ≡ inOrder (eachEntry (systemTests a t) 0 s) good) (is : g ≡ isGood v) where
@@ -96,7 +98,7 @@ module _ (a b : Section) (t : List ℕ) where
     from-systems = k .past
 
     pub second-refused : (j : Judgement) → not g ≡ true → j ≡ refusedBy v → j ≡ judgement a b t
-    second-refused j f r = refuses (systemsTests a t) (behindSystems a b t) v g j from-systems rising is f r
+    second-refused j f r = refuses (systemsTests a t) (behindSystems a b t) v g from-systems rising is j f r
 
     pub second-passed : (from : ℕ) → not g ≡ false → from ≡ entryAt a 0 s → Second s from
     second-passed from f starts = record {
@@ -106,7 +108,7 @@ module _ (a b : Section) (t : List ℕ) where
       follows = omega arith;
       inside = omega (arith, k .fits);
       past =
-          goes-past (systemsTests a t) (behindSystems a b t) v (judged a b t) from-systems rising (refusing-each (systemTests a t) (λ k. refl) 0 (countAt t 0)) (on is f);
+          passes (systemsTests a t) (behindSystems a b t) v g from-systems rising is (refusing-each (systemTests a t) (λ k. refl) 0 (countAt t 0)) f;
     }
 
   module _ (s from : ℕ) (k : Second s from) (v : Verdict) (g : Bool) (e : v ≡ inOrder (sectionTests b t from) good) (is : g ≡ isGood v) where
@@ -118,7 +120,7 @@ module _ (a b : Section) (t : List ℕ) where
     from-count = k .past
 
     pub third-refused : (j : Judgement) → not g ≡ true → j ≡ refusedBy v → j ≡ judgement a b t
-    third-refused j f r = refuses (sectionTests b t (partsFrom a t)) behindThird v g j from-count sized is f r
+    third-refused j f r = refuses (sectionTests b t (partsFrom a t)) behindThird v g from-count sized is j f r
 
     pub third-passed : (n : ℕ) → not g ≡ false → n ≡ lowFirst (take 2 (drop from t)) → Third s from n
     unfolding countAt
@@ -126,7 +128,7 @@ module _ (a b : Section) (t : List ℕ) where
       second = k;
       listed = c ∙ ap (countAt t) (k .starts);
       fits = section-fits b t from n c (ap isGood (sym e) ∙ on is f);
-      past = goes-past (sectionTests b t (partsFrom a t)) behindThird v (judged a b t) from-count sized refl (on is f);
+      past = passes (sectionTests b t (partsFrom a t)) behindThird v g from-count sized is refl f;
     }
 
   module _ (s from n : ℕ) (k : Third s from n) (v : Verdict) (g : Bool) (e : v ≡ inOrder (eachEntry (partTests a b t from) 0 n) good) (is : g ≡ isGood v) where
@@ -141,13 +143,13 @@ module _ (a b : Section) (t : List ℕ) where
     from-parts = k .past
 
     pub fourth-refused : (j : Judgement) → not g ≡ true → j ≡ refusedBy v → j ≡ judgement a b t
-    fourth-refused j f r = refuses (partsTests a b t) (tailTest a b t ∷ []) v g j from-parts owned is f r
+    fourth-refused j f r = refuses (partsTests a b t) (tailTest a b t ∷ []) v g from-parts owned is j f r
 
     module _ (f : not g ≡ false) (end : ℕ) (ends : end ≡ entryAt b from n) where
       from-tail : judged a b t ≡ inOrder (tailTest a b t ∷ []) good
       from-tail =
-          goes-past (partsTests a b t) (tailTest a b t ∷ []) v (judged a b t) from-parts owned
-          (refusing-each (partTests a b t (partsFrom a t)) (λ k. refl) 0 (countAt t (partsFrom a t))) (on is f)
+          passes (partsTests a b t) (tailTest a b t ∷ []) v g from-parts owned is
+          (refusing-each (partTests a b t (partsFrom a t)) (λ k. refl) 0 (countAt t (partsFrom a t))) f
 
       end-is : end ≡ endOf b t (partsFrom a t)
       end-is = ends ∙ ap (λ (p : ℕ). entryAt b p n) (k .second .starts) ∙ ap (entryAt b (partsFrom a t)) (k .listed)

@@ -49,7 +49,7 @@ find-place-spec =
     (λ c κs. let k = known (c .before .before .before .before) in search needs)
     unasked
     unasked
-    (λ c. let k = known (c .before .before .before .before .before .before .before .before) in search finding)  -- !is_at(table, PARTS, from, i, judged.parts, &sought)
+    (λ c. let k = known (c .before .before .before .before .before .before .before .before) in search finding)  -- !is_at(table, PARTS, from, i, ..)
     (λ c κs. let k = listed c in search needs)
     (λ c. let k = listed (c .before .before) in search needs)
     (λ c. let k = listed (c .before .before .before) in search needs)

@@ -6,7 +6,7 @@ use borrow.Author.Needs.{needs}
 use Rattle.octets.proofs.Asked.{unasked}
 use Rattle.devices.specs.Sections.{entryAt}
 use Rattle.devices.specs.Tables.{ofSystems, ofParts, partTests}
-use Rattle.devices.proofs.Entries.{entry-inside}
+use Rattle.devices.proofs.Entries.{entry-inside, end-before}
 use Rattle.devices.proofs.Each.{Deciding, deciding}
 use Rattle.devices.proofs.Merging.{Walk, Met, meets, merging}
 use Rattle.devices.proofs.judge_parts.Statement.{statement}
@@ -22,14 +22,6 @@ abbrev μ-loop : tie.MeasureT-loop
 add-refused : tie.Need-add-refused Inv-loop μ-loop
 unfolding entryAt
 add-refused c = omega arith
-
-seek-requires : tie.Need-seek-requires Inv-loop μ-loop
-unfolding entryAt
-seek-requires c κs = (omega arith, omega arith)
-
-is-at-requires : tie.Need-is-at-requires Inv-loop μ-loop
-unfolding entryAt
-is-at-requires c κs = (omega arith, omega arith)
 
 add-refused-2 : tie.Need-add-refused-2 Inv-loop μ-loop
 unfolding entryAt
@@ -60,8 +52,8 @@ judge-parts-spec =
     unasked
     (λ c. search (deciding, merging))  -- !is_rising(table, PARTS, from, i)
     (λ c κs. search (entry-inside, needs))
-    seek-requires
-    is-at-requires
+    (λ c κs. search (end-before, needs))
+    (λ c κs. search (end-before, needs))
     add-refused-2
     unasked
     returns-2  -- !is_at(table, SYSTEMS, 0, at, systems, system)
