@@ -19,7 +19,7 @@ main-spec =
     μ-loop
     unasked
     unasked
-    (λ c. tt)
+    (λ c. tt)  -- count < 2
     (λ c. tt)
     unasked
     (λ c. omega arith)
