@@ -1,4 +1,4 @@
--- The laws of tests that are made entry by entry. By induction on the number of entries. Assumes nothing.
+-- The laws of tests that are made entry by entry, and of the loop that makes them. By induction on the number of entries. Assumes nothing.
 use Prim.Native.Nat.{ℕ, zero, suc, _+_, _-_, _≤_, _<_}
 use native.Mathlib.Nat.{eq-or-lt-of-le}
 use native.Mathlib.Numerals.{add-one}
