@@ -164,6 +164,3 @@ module _ (a b : Section) (t : List ℕ) where
       all-passed j h p q r =
           let whole : judged a b t ≡ good = from-tail ∙ passed (tailTest a b t) [] good (le-leb (length t) (endOf b t (partsFrom a t)) (omega (arith, end-is))) in
           (λ i. record { verdict = p i; systems = (q ∙ k .second .counted) i; parts = (r ∙ k .listed) i }) ∙ judgement-good whole
-
-pub ruleset stages =
-    (first-refused, first-passed, second-refused, second-passed, third-refused, third-passed, fourth-refused, tail-refused, all-passed)

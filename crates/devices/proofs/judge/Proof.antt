@@ -3,7 +3,8 @@
 use borrow.Author.Needs.{needs}
 use Rattle.octets.proofs.Asked.{unasked}
 use Rattle.devices.specs.Tables.{ofSystems, ofParts}
-use Rattle.devices.proofs.Stages.{First, Second, Third, stages}
+use Rattle.devices.proofs.Stages.{First, Second, Third, first-passed, second-passed, third-passed}
+use Rattle.devices.proofs.Stages.{first-refused, second-refused, third-refused, fourth-refused, tail-refused, all-passed}
 use Rattle.devices.proofs.judge.Statement.{statement}
 use Rattle.devices.proofs.judge.Tie as tie
 
@@ -11,14 +12,14 @@ use Rattle.devices.proofs.judge.Tie as tie
 first : (c : tie.After-two-at) →
     let table = c .before .before .before .before .before .args .table in
     First ofSystems ofParts (table .now) (c .two-at .result)
-first c = search stages
+first c = search first-passed
 
 -- behind their order
 second : (c : tie.After-entry-at) →
     let systems = c .before .before .before .before .two-at .result in
     let table = c .before .before .before .before .before .before .before .before .before .args .table in
     Second ofSystems ofParts (table .now) systems (c .entry-at .result)
-second c = let k = first (c .before .before .before .before) in search stages
+second c = let k = first (c .before .before .before .before) in search second-passed
 
 -- behind the parts' count and size
 third : (c : tie.After-two-at2) →
@@ -26,7 +27,7 @@ third : (c : tie.After-two-at2) →
     let systems = c .before .before .before .before .before .before .before .before .two-at .result in
     let table = c .before .before .before .before .before .before .before .before .before .before .before .before .before .args .table in
     Third ofSystems ofParts (table .now) systems from (c .two-at2 .result)
-third c = let k = second (c .before .before .before .before) in search stages
+third c = let k = second (c .before .before .before .before) in search third-passed
 
 pub judge-spec : {M : Type 1} → statement M
 judge-spec =
@@ -35,27 +36,27 @@ judge-spec =
     (λ c κs. search needs)
     unasked
     unasked
-    (λ c. search stages)  -- !first.is_good()
+    (λ c. search first-refused)  -- !first.is_good()
     unasked
     (λ c. search needs)
     (λ c κs. let k = first c in search)
     unasked
     unasked
-    (λ c. let k = first (c .before .before .before .before) in search stages)  -- !rising.is_good()
+    (λ c. let k = first (c .before .before .before .before) in search second-refused)  -- !rising.is_good()
     (λ c κs. let k = first (c .before .before .before) in search needs)
     (λ c κs. let k = second c in search needs)
     unasked
     unasked
-    (λ c. let k = second (c .before .before .before .before) in search stages)  -- !second.is_good()
+    (λ c. let k = second (c .before .before .before .before) in search third-refused)  -- !second.is_good()
     unasked
     (λ c. search needs)
     (λ c κs. let k = third c in search)
     unasked
     unasked
-    (λ c. let k = third (c .before .before .before .before) in search stages)  -- !owned.is_good()
+    (λ c. let k = third (c .before .before .before .before) in search fourth-refused)  -- !owned.is_good()
     (λ c κs. let k = third (c .before .before .before) in search needs)
     unasked
     unasked
-    (λ c. let k = third (c .before .before .before .before .before .before .before) in search stages)  -- entry_at(PARTS, from, parts) < table.len()
+    (λ c. let k = third (c .before .before .before .before .before .before .before) in search tail-refused fits 4000)  -- entry_at(PARTS, ..) < table.len()
     unasked
-    (λ c. let k = third (c .before .before .before .before .before .before) in search stages))
+    (λ c. let k = third (c .before .before .before .before .before .before) in search all-passed fits 4000))

@@ -32,13 +32,13 @@ met : (c : tie.After-is-at Inv-loop μ-loop) →
     let i = c .before .before .before .before .before .before .loop .i in
     let a = c .before .before .before .before .before .before .before .before .args in
     Met ofSystems ofParts (a .table .now) (a .from) (a .systems) i (c .before .seek .result) (c .is-at .result)
-met c = search meets
+met c = search meets fits 4000
 
 returns-2 : tie.Need-returns-2 Inv-loop μ-loop
-returns-2 c = let k = met (c .before .before) in search (deciding, merging)
+returns-2 c = let k = met (c .before .before) in search (deciding, merging) fits 4000
 
 loop-again : tie.Need-loop-again Inv-loop μ-loop
-loop-again c = let k = met (c .before) in search (deciding, merging)
+loop-again c = let k = met (c .before) in search (deciding, merging) fits 4000
 
 pub judge-parts-spec : {M : Type 1} → statement M
 judge-parts-spec =
