@@ -5,15 +5,17 @@ use native.Mathlib.Omega.{arith}
 use mathlib.Core.Bool.{Bool, true, false, not, _&&_, and-false, and-eq-true-iff}
 use mathlib.Core.List.{List}
 use mathlib.Core.Path.{_≡_, refl, sym, ap, _∙_}
-use lib.ListN.{length, take, drop, take-append-drop}
-use lib.Seq.{take-add, take-take}
+use borrow.Author.Needs.{needs}
+use borrow.Author.Tests.{not-false}
+use lib.ListN.{length, getD, take, drop, take-append-drop}
+use lib.Seq.{take-add, take-take, drop-cons}
 use Rattle.octets.specs.Searches.{every}
 use Rattle.octets.proofs.Searches.{every-append}
-use Rattle.octets.proofs.Flags.{on, off}
+use Rattle.octets.proofs.Flags.{off}
 use Rattle.octets.proofs.Parts.{rest-is}
 
 -- the length of a block, as its two ends give it
-pub block : (i k : ℕ) → i + k - i ≡ k
+block : (i k : ℕ) → i + k - i ≡ k
 block i k = omega arith
 
 module _ (f : ℕ → Bool) where
@@ -30,16 +32,28 @@ module _ (f : ℕ → Bool) where
   unfolding every
   passed-none s = record { all = refl; inside = omega arith; pass = refl }
 
-  -- a block that passes, and one that does not
-  pub passed-more : (s : List ℕ) (n i k : ℕ) (r : Bool) → Passed s n i → k ≤ n - i → r ≡ every f (take (i + k - i) (drop i s)) → not r ≡ false
-      → Passed s n (i + k)
-  passed-more s n i k r p h e t =
-      let b : every f (take k (drop i s)) ≡ true = ap (λ (m : ℕ). every f (take m (drop i s))) (sym (block i k)) ∙ on e t in
+  passed-by : (s : List ℕ) (n i k : ℕ) → Passed s n i → k ≤ n - i → every f (take k (drop i s)) ≡ true → Passed s n (i + k)
+  passed-by s n i k p h b =
       record {
         all = p .all;
         inside = omega (arith, p .inside);
         pass = ap (every f) (take-add i k s) ∙ every-append f (take i s) (take k (drop i s)) ∙ simp (p .pass, b);
       }
+
+  -- a block that passes, as a loop or a test asks, one byte that does, and a block that does not
+  pub passed-on : (s : List ℕ) (n i k : ℕ) (r : Bool) → Passed s n i → k ≤ n - i → r ≡ every f (take (i + k - i) (drop i s)) → r ≡ true
+      → Passed s n (i + k)
+  passed-on s n i k r p h e t = passed-by s n i k p h (ap (λ (m : ℕ). every f (take m (drop i s))) (sym (block i k)) ∙ sym e ∙ t)
+
+  pub passed-more : {s : List ℕ} {n i k : ℕ} {r : Bool} → Passed s n i → k ≤ n - i → r ≡ every f (take (i + k - i) (drop i s)) → not r ≡ false
+      → Passed s n (i + k)
+  passed-more {s} {n} {i} {k} {r} p h e t = passed-on s n i k r p h e (not-false r t)
+
+  pub passed-one : (s : List ℕ) (n i : ℕ) → Passed s n i → i < n → f (getD s i 0) ≡ true → Passed s n (i + 1)
+  unfolding every
+  passed-one s n i p h t =
+      let here : i < length s = omega (arith, p .all) in
+      passed-by s n i 1 p (omega arith) (rw (drop-cons s i 0 here, t) refl)
 
   pub passed-not : (s : List ℕ) (i n : ℕ) (r : Bool) → r ≡ every f (take n (drop i s)) → not r ≡ true → false ≡ every f s
   passed-not s i n r e t =
@@ -58,4 +72,4 @@ module _ (f : ℕ → Bool) where
       let rest : take (n - at) (drop at s) ≡ drop at s = ap (λ (m : ℕ). take (m - at) (drop at s)) (p .all) ∙ rest-is s at in
       e ∙ ap (every f) rest ∙ sym (every-cut at s ∙ ap (λ (b : Bool). b && every f (drop at s)) front)
 
-pub ruleset blocks = (passed-none, passed-more, passed-not, passed-last)
+pub ruleset blocks = (needs, passed-none, passed-on, passed-more, passed-one, passed-not, passed-last)

@@ -3,3 +3,4 @@ pub mod Blocks
 pub mod Plains
 pub mod Noises
 pub mod Wipes
+pub mod Spans

@@ -5,6 +5,7 @@ use native.Mathlib.Omega.{arith}
 use mathlib.Core.Bool.{Bool, true, false, not, _||_, cond}
 use mathlib.Core.List.{List, [], _∷_}
 use mathlib.Core.Path.{_≡_, refl, sym, ap, _∙_}
+use borrow.Author.Needs.{needs}
 use borrow.Author.Tests.{eq-eqb, ne-eqb}
 use lib.Dec.{eqb}
 use lib.ListN.{length, getD, take, drop, length-drop, drop-of-length-le}
@@ -64,7 +65,7 @@ pub record Noisy (s : List ℕ) (most end i : ℕ) : Type 0 where
   pub limit : end ≡ min most (length s)
   pub run : noiseRun s ≡ i + noiseRun (drop i s)
 
-module _ (s : List ℕ) (most end : ℕ) where
+module _ {s : List ℕ} {most end : ℕ} where
   pub noisy-none : end ≡ min most (length s) → Noisy s most end 0
   noisy-none e = record { inside = omega arith; limit = e; run = omega arith }
 
@@ -72,11 +73,11 @@ module _ (s : List ℕ) (most end : ℕ) where
   noisy-end i p h = omega (arith, p .inside, p .limit, p .run, noise-long s)
 
   -- a turn: up to the next 64, or to the limit
-  module _ (i r : ℕ) (p : Noisy s most end i) (q : r ≡ plainRun (take (end - i) (drop i s))) where
+  module _ {i r : ℕ} (p : Noisy s most end i) (q : r ≡ plainRun (take (end - i) (drop i s))) where
     seen : r ≡ min (end - i) (plainRun (drop i s))
     seen = q ∙ plain-take (end - i) (drop i s)
 
-    pub noisy-at : Noisy s most end (i + r)
+    noisy-at : Noisy s most end (i + r)
     noisy-at =
         record {
           inside = omega (arith, p .inside, seen);
@@ -90,6 +91,9 @@ module _ (s : List ℕ) (most end : ℕ) where
         sym (getD-drop i s r 0)
         ∙ ap (λ (k : ℕ). getD (drop i s) k 0) whole
         ∙ plain-next (drop i s) (omega (arith, p .limit, length-drop i s))
+
+    pub noisy-within : i + r ≤ end
+    noisy-within = noisy-at .inside
 
     pub noisy-limit : end ≤ i + r → end ≡ min most (noiseRun s)
     noisy-limit h = noisy-end (i + r) noisy-at h
@@ -111,7 +115,7 @@ module _ (s : List ℕ) (most end : ℕ) where
           run = omega (arith, noisy-at .run, noise-on s (i + r) (omega (arith, p .limit)) l e);
         }
 
-pub ruleset noises = (noisy-none, noisy-end, noisy-limit, noisy-last, noisy-stop, noisy-more)
+pub ruleset noises = (needs, noisy-none, noisy-end, noisy-limit, noisy-last, noisy-stop, noisy-more)
 
 -- whether a row begins with something other than 64
 pub others-none : (b : List ℕ) → length b ≡ 0 → startsOther b ≡ false

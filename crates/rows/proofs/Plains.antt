@@ -1,6 +1,5 @@
 -- The bytes before the first 64, counted block by block and then one by one. Assumes nothing.
 use Prim.Native.Nat.{ℕ, zero, suc, _+_, _-_, _≤_, _<_, min}
-use native.Mathlib.Numerals.{add-one}
 use native.Mathlib.Omega.{arith}
 use mathlib.Core.Bool.{Bool, true, false, not, cond, and-eq-true-iff}
 use mathlib.Core.List.{List, [], _∷_}
@@ -8,13 +7,13 @@ use mathlib.Core.Path.{_≡_, refl, sym, ap, _∙_}
 use borrow.Author.Tests.{eqb-true, eqb-false, eq-eqb, ne-eqb, not-true, not-false}
 use lib.Dec.{eqb}
 use lib.ListN.{length, getD, take, drop, length-drop}
-use lib.Seq.{drop-cons, drop-drop}
+use lib.Seq.{drop-cons}
 use Rattle.octets.specs.Searches.{every}
 use Rattle.octets.proofs.Parts.{rest-is}
 use Rattle.rows.specs.Runs.{plainRun, no64}
-use Rattle.rows.proofs.Blocks.{block}
+use Rattle.rows.proofs.Blocks.{Passed, blocks}
 
-pub plain-long : (xs : List ℕ) → plainRun xs ≤ length xs
+plain-long : (xs : List ℕ) → plainRun xs ≤ length xs
 unfolding plainRun
 plain-long [] = omega arith
 plain-long (x ∷ xs) = by-test (eqb x 64) (plain-long xs)
@@ -38,49 +37,33 @@ plain-block (suc n) (x ∷ xs) h a =
     rw (not-true (eqb x 64) (both .0)) (omega (arith, plain-block n xs (omega arith) (both .1)))
 
 -- the first i of n bytes have no 64
-pub record Plain (s : List ℕ) (n i : ℕ) : Type 0 where
-  pub all : n ≡ length s
-  pub inside : i ≤ n
-  pub run : plainRun s ≡ i + plainRun (drop i s)
+abbrev pub Plain : List ℕ → ℕ → ℕ → Type 0
+Plain = Passed (λ b. not (eqb b 64))
 
-module _ (s : List ℕ) where
-  pub plain-none : Plain s (length s) 0
-  plain-none = record { all = refl; inside = omega arith; run = omega arith }
+module _ {s : List ℕ} {n i : ℕ} (p : Plain s n i) where
+  run : plainRun s ≡ i + plainRun (drop i s)
+  run = plain-block i s (omega (arith, p .all, p .inside)) (p .pass)
 
-  -- a block without a 64, a byte other than 64, and a 64
-  pub plain-more : (n i k : ℕ) (r : Bool) → Plain s n i → k ≤ n - i → r ≡ no64 (take (i + k - i) (drop i s)) → r ≡ true → Plain s n (i + k)
-  plain-more n i k r p h e t =
-      let b : no64 (take k (drop i s)) ≡ true = ap (λ (m : ℕ). no64 (take m (drop i s))) (sym (block i k)) ∙ sym e ∙ t in
-      let fits : i + k ≤ length s = omega (arith, p .all, p .inside) in
-      record {
-        all = p .all;
-        inside = omega (arith, p .inside);
-        run = omega (arith, p .run, plain-block k (drop i s) (omega (arith, length-drop i s)) b, ap plainRun (drop-drop k i s));
-      }
-
-  pub plain-one : (n i : ℕ) → Plain s n i → i < n → not (eqb (getD s i 0) 64) ≡ true → Plain s n (i + 1)
+  -- a 64 follows, or nothing does
+  pub plain-stop : i < n → not (eqb (getD s i 0) 64) ≡ false → i ≡ plainRun s
   unfolding plainRun
-  plain-one n i p h t =
-      let in-s : i < length s = omega (arith, p .all) in
-      let step : plainRun (drop i s) ≡ 1 + plainRun (drop (i + 1) s) =
-      rw (add-one i, drop-cons s i 0 in-s, not-true (eqb (getD s i 0) 64) t) (omega arith) in
-      record { all = p .all; inside = omega arith; run = omega (arith, p .run, step) }
-
-  pub plain-stop : (n i : ℕ) → Plain s n i → i < n → not (eqb (getD s i 0) 64) ≡ false → i ≡ plainRun s
-  unfolding plainRun
-  plain-stop n i p h t =
+  plain-stop h t =
       let in-s : i < length s = omega (arith, p .all) in
       let none : plainRun (drop i s) ≡ 0 = rw (drop-cons s i 0 in-s, not-false (eqb (getD s i 0) 64) t) refl in
-      omega (arith, p .run, none)
+      omega (arith, run, none)
 
-  -- the end, and what a callee counted of the rest
-  pub plain-end : (n i : ℕ) → Plain s n i → n ≤ i → i ≡ plainRun s
-  plain-end n i p h = omega (arith, p .all, p .run, plain-long (drop i s), length-drop i s)
+  pub plain-end : n ≤ i → i ≡ plainRun s
+  plain-end h = omega (arith, p .all, run, plain-long (drop i s), length-drop i s)
 
-  pub plain-rest : (n i r : ℕ) → Plain s n i → r ≡ plainRun (take (length s - i) (drop i s)) → i + r ≡ plainRun s
-  plain-rest n i r p e = omega (arith, p .run, e ∙ ap plainRun (rest-is s i))
+  -- what a callee counted of the rest
+  module _ {r : ℕ} (e : r ≡ plainRun (take (length s - i) (drop i s))) where
+    pub plain-rest : i + r ≡ plainRun s
+    plain-rest = omega (arith, run, e ∙ ap plainRun (rest-is s i))
 
-pub ruleset plains = (plain-zero, plain-none, plain-more, plain-one, plain-stop, plain-end, plain-rest)
+    pub plain-within : i + r ≤ n
+    plain-within = omega (arith, p .all, plain-rest, plain-long s)
+
+pub ruleset plains = (blocks, plain-zero, plain-stop, plain-end, plain-rest)
 
 -- as many of them as a limit lets be seen
 pub plain-take : (k : ℕ) (xs : List ℕ) → plainRun (take k xs) ≡ min k (plainRun xs)

@@ -3,6 +3,7 @@ use Prim.Native.Nat.{ℕ, _+_, _≤_, _<_}
 use native.Mathlib.Omega.{arith}
 use mathlib.Core.List.{List, _++_, append-nil}
 use mathlib.Core.Path.{_≡_, refl, ap, _∙_}
+use borrow.Author.Needs.{needs}
 use borrow.Author.Fill.{fill-none, fill-more}
 use lib.ListN.{length, set, drop, replicate, length-set, drop-of-length-le}
 
@@ -27,4 +28,4 @@ module _ (row : List ℕ) where
       let past : length row ≤ i = omega arith in
       w .is ∙ ap (λ (l : List ℕ). replicate i 0 ++ l) (drop-of-length-le row past) ∙ append-nil (replicate i 0) ∙ ap (λ (n : ℕ). replicate n 0) all
 
-pub ruleset wiping = (wiping-none, wiping-more, wiping-end)
+pub ruleset wiping = (needs, wiping-none, wiping-more, wiping-end)

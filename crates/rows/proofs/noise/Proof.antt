@@ -1,9 +1,8 @@
 -- `rows::noise` meets its contract. The loop's invariant: what is passed is noise, and the run goes on from there. Assumes nothing.
 use Prim.Native.Nat.{_-_}
 use native.Mathlib.Omega.{arith}
-use borrow.Author.Needs.{needs}
 use Rattle.octets.proofs.Asked.{unasked}
-use Rattle.rows.proofs.Noises.{Noisy, noisy-at, noises}
+use Rattle.rows.proofs.Noises.{Noisy, noisy-within, noises}
 use Rattle.rows.proofs.noise.Statement.{statement}
 use Rattle.rows.proofs.noise.Tie as tie
 
@@ -15,10 +14,7 @@ abbrev μ-loop : tie.MeasureT-loop
 
 -- the next 64 stands before the end of what is looked at
 add-at : tie.Need-add-at Inv-loop μ-loop
-add-at c =
-    let l = c .before .before .before .loop in
-    let next = noisy-at _ _ _ (l .i) _ (l .inv) (c .plain .ensures) in
-    omega (arith, next .inside)
+add-at c = omega (arith, noisy-within (c .before .before .before .loop .inv) (c .plain .ensures))
 
 pub noise-spec : {M : Type 1} → statement M
 noise-spec =
@@ -27,19 +23,19 @@ noise-spec =
     Inv-loop
     μ-loop
     unasked
-    (λ c. search (noises, needs))
-    (λ c. search (noises, needs))
-    (λ c. search (noises, needs))
-    (λ c. search (noises, needs))
+    (λ c. search noises)
+    (λ c. search noises)
+    (λ c. search noises)
+    (λ c. search noises)
     unasked
     add-at
-    (λ c. search (noises, needs))
-    (λ c. search (noises, needs))
-    (λ c. search (noises, needs))
-    (λ c. search (noises, needs))
-    (λ c. search (noises, needs))
-    (λ c. search (noises, needs))
-    (λ c. search (noises, needs))
-    (λ c. search (noises, needs))
-    (λ c. search (noises, needs))
-    (λ c. search (noises, needs)))
+    (λ c. search noises)  -- end <= at
+    (λ c. search noises)
+    (λ c. search noises)  -- s.len() <= at + 1
+    (λ c. search noises)
+    (λ c. search noises)
+    (λ c. search noises)  -- s[at + 1] == 64
+    (λ c. search noises)
+    (λ c. search noises)
+    (λ c. search noises)
+    (λ c. search noises))

@@ -1,9 +1,8 @@
 -- `rows::plain` meets its contract. The loops' invariant: what is passed has no 64. Assumes nothing.
 use Prim.Native.Nat.{_-_}
 use native.Mathlib.Omega.{arith}
-use borrow.Author.Needs.{needs}
 use Rattle.octets.proofs.Asked.{unasked}
-use Rattle.rows.proofs.Plains.{Plain, plain-long, plain-rest, plains}
+use Rattle.rows.proofs.Plains.{Plain, plain-within, plains}
 use Rattle.rows.proofs.plain.Statement.{statement}
 use Rattle.rows.proofs.plain.Tie as tie
 
@@ -21,10 +20,7 @@ abbrev μ-loop2 : tie.MeasureT-loop2
 
 -- no more are counted than there are bytes
 add-result : tie.Need-add-result Inv-loop μ-loop Inv-loop2 μ-loop2
-add-result c =
-    let s = c .before .before .before .before .before .before .before .before .before .args .s .now in
-    let l = c .before .before .before .loop2 in
-    omega (arith, plain-rest s _ (l .i) (c .plain-few .result) (l .inv) (c .plain-few .ensures), plain-long s)
+add-result c = omega (arith, plain-within (c .before .before .before .loop2 .inv) (c .plain-few .ensures))
 
 pub plain-spec : {M : Type 1} → statement M
 plain-spec =
@@ -35,30 +31,30 @@ plain-spec =
     Inv-loop2
     μ-loop2
     unasked
-    (λ c. search (plains, needs))
-    (λ c. search (plains, needs))
-    (λ c. search (plains, needs))
-    (λ c. search (plains, needs))
-    (λ c. search (plains, needs))
-    (λ c. search (plains, needs))
-    (λ c. search (plains, needs))
+    (λ c. search plains)  -- s[0] == 64
+    (λ c. search plains)
+    (λ c. search plains)
+    (λ c. search plains)
+    (λ c. search plains)
+    (λ c. search plains)
+    (λ c. search plains)
     unasked
-    (λ c. search (plains, needs))
-    (λ c. search (plains, needs))
-    (λ c. search (plains, needs))
-    (λ c. search (plains, needs))
-    (λ c. search (plains, needs))
-    (λ c. search (plains, needs))
-    (λ c. search (plains, needs))
-    (λ c. search (plains, needs))
-    (λ c. search (plains, needs))
+    (λ c. search plains)
+    (λ c. search plains)
+    (λ c. search plains)
+    (λ c. search plains)
+    (λ c. search plains)
+    (λ c. search plains)
+    (λ c. search plains)
+    (λ c. search plains)
+    (λ c. search plains)
     unasked
-    (λ c. search (plains, needs))
-    (λ c. search (plains, needs))
-    (λ c. search (plains, needs))
-    (λ c. search (plains, needs))
-    (λ c. search (plains, needs))
-    (λ c. search (plains, needs))
+    (λ c. search plains)
+    (λ c. search plains)
+    (λ c. search plains)
+    (λ c. search plains)
+    (λ c. search plains)
+    (λ c. search plains)
     unasked
     add-result
-    (λ c. search (plains, needs)))
+    (λ c. search plains))

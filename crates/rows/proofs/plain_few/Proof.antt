@@ -1,6 +1,5 @@
 -- `rows::plain_few` meets its contract. The loops' invariant: what is passed has no 64. Assumes nothing.
 use Prim.Native.Nat.{_-_}
-use borrow.Author.Needs.{needs}
 use Rattle.octets.proofs.Asked.{unasked}
 use Rattle.rows.proofs.Plains.{Plain, plains}
 use Rattle.rows.proofs.plain_few.Statement.{statement}
@@ -26,20 +25,20 @@ plain-few-spec =
     μ-loop
     Inv-loop2
     μ-loop2
-    (λ c. search (plains, needs))
-    (λ c. search (plains, needs))
-    (λ c. search (plains, needs))
-    (λ c. search (plains, needs))
-    (λ c. search (plains, needs))
-    (λ c. search (plains, needs))
+    (λ c. search plains)
+    (λ c. search plains)
+    (λ c. search plains)
+    (λ c. search plains)
+    (λ c. search plains)
+    (λ c. search plains)
     unasked
-    (λ c. search (plains, needs))
-    (λ c. search (plains, needs))
-    (λ c. search (plains, needs))
-    (λ c. search (plains, needs))
-    (λ c. search (plains, needs))
-    (λ c. search (plains, needs))
-    (λ c. search (plains, needs))
-    (λ c. search (plains, needs))
-    (λ c. search (plains, needs))
-    (λ c. search (plains, needs)))
+    (λ c. search plains)
+    (λ c. search plains)
+    (λ c. search plains)
+    (λ c. search plains)
+    (λ c. search plains)
+    (λ c. search plains)
+    (λ c. search plains)
+    (λ c. search plains)
+    (λ c. search plains)  -- s[i] == 64
+    (λ c. search plains))

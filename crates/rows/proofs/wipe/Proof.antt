@@ -1,6 +1,5 @@
 -- `rows::wipe` meets its contract. The loop's invariant: the first i bytes are zero. Assumes nothing.
 use Prim.Native.Nat.{_-_}
-use borrow.Author.Needs.{needs}
 use lib.ListN.{length}
 use Rattle.rows.proofs.Wipes.{Wiping, wiping}
 use Rattle.rows.proofs.wipe.Statement.{statement}
@@ -18,10 +17,10 @@ wipe-spec =
     (tie.spec
     Inv-loop
     μ-loop
-    (λ c. search (wiping, needs))
-    (λ c. search (wiping, needs))
-    (λ c. search (wiping, needs))
-    (λ c. search (wiping, needs))
-    (λ c. search (wiping, needs))
-    (λ c. search (wiping, needs))
-    (λ c. search (wiping, needs)))
+    (λ c. search wiping)
+    (λ c. search wiping)
+    (λ c. search wiping)
+    (λ c. search wiping)
+    (λ c. search wiping)
+    (λ c. search wiping)
+    (λ c. search wiping))
