@@ -1,4 +1,5 @@
 pub mod Spans
+pub mod Walks
 pub mod Shifts
 pub mod Aheads
 pub mod Finds
