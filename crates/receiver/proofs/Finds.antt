@@ -1,11 +1,12 @@
 -- What is found first, after a run of noise. Assumes nothing.
 use Prim.Native.Nat.{ℕ, zero, suc, _+_, _-_, _≤_, _<_, min}
 use native.Mathlib.Omega.{arith}
-use mathlib.Core.Bool.{Bool, true, false, not, _&&_, _||_, cond, and-eq-true-iff, true≢false, false≢true}
+use mathlib.Core.Bool.{Bool, true, false, not, _&&_, _||_, cond, and-false, and-eq-true-iff, true≢false, false≢true}
 use mathlib.Core.List.{List, [], _∷_, _++_, append-nil}
 use mathlib.Core.Logic.{_⊎_, inl, inr, ⊎-elim}
 use mathlib.Core.Path.{_≡_, refl, sym, ap, _∙_}
-use borrow.Author.Tests.{eqb-true, eq-eqb, ne-eqb, ltb-true, ltb-false, le-leb, not-true, not-false}
+use borrow.Author.Tests.{eqb-true, eq-eqb, ne-eqb, ltb-true, ltb-false, lt-ltb, le-ltb, le-leb, not-true, not-false}
+use borrow.Author.Needs.{needs}
 use lib.Dec.{leb, ltb, eqb}
 use lib.ListN.{length, getD, drop, length-drop, drop-of-length-le}
 use Rattle.reading.specs.declared.Standing.{Standing}
@@ -16,7 +17,7 @@ use Rattle.reading.specs.Standing.{whenThere, judgedFrame, started, stands}
 use Rattle.reading.specs.Finding.{noiseAt, onward, noise, found, first}
 use Rattle.reading.proofs.Stands.{nothing-waits, not-there}
 use Rattle.rows.specs.Runs.{startsOther, noiseRun}
-use Rattle.rows.proofs.Noises.{noise-long}
+use Rattle.rows.proofs.Noises.{noise-long, others-none, others-some}
 use Rattle.receiver.specs.Runs.{crossing, ahead, settled}
 
 pub ahead-zero : (f : Step) → ahead 0 f ≡ f
@@ -264,3 +265,23 @@ crossing-low left b count c =
 pub first-none : (M s : ℕ) (a b : List ℕ) → length a ≡ 0 → ahead 0 (first M s b) ≡ first M s (a ++ b)
 first-none M s [] b e = ahead-zero (first M s b)
 first-none M s (x ∷ a) b e = absurd (omega arith)
+
+-- whether the last held byte is skipped, by the tests in their order
+module _ (left count : ℕ) (b : List ℕ) where
+  pub not-last : (left ≡ 1 → ⊥) → false ≡ crossing left b count
+  unfolding crossing
+  not-last h = simp (ne-eqb left 1 h)
+
+  pub count-full : 65534 ≤ count → false ≡ crossing left b count
+  unfolding crossing
+  count-full h = simp (le-ltb count 65534 h, and-false (eqb left 1))
+
+  pub none-follows : length b ≡ 0 → false ≡ crossing left b count
+  unfolding crossing
+  none-follows h = simp (others-none b h, and-false (eqb left 1 && ltb count 65534))
+
+  pub by-next : left ≡ 1 → count < 65534 → (length b ≡ 0 → ⊥) → not (eqb (getD b 0 0) 64) ≡ crossing left b count
+  unfolding crossing
+  by-next e l h = simp (eq-eqb left 1 e, lt-ltb count 65534 l) (others-some b h)
+
+pub ruleset crossings = (needs, not-last, count-full, none-follows, by-next)

@@ -5,6 +5,7 @@ use native.Mathlib.Nat.{zero-sub, suc-sub-suc, sub-zero}
 use native.Mathlib.Omega.{arith}
 use mathlib.Core.List.{List, _++_}
 use mathlib.Core.Path.{_≡_, refl, sym, ap, _∙_}
+use borrow.Author.Needs.{needs}
 use lib.ListN.{length, take, drop, replicate, length-append, length-drop, replicate-append-replicate, drop-of-length-le}
 use lib.Seq.{drop-drop, drop-append-add, drop-append-seam, take-append-seam, take-at, take-all, length-take-le}
 use Rattle.octets.specs.Parts.{putAt}
@@ -12,6 +13,7 @@ use Rattle.octets.proofs.Parts.{put-is}
 use Rattle.octets.proofs.Rows.{drop-over, drop-take}
 use Rattle.reading.specs.Calls.{padTo, copied}
 use Rattle.receiver.specs.Shifts.{shifted}
+use Rattle.receiver.proofs.Spans.{parts-are, part-short}
 
 drop-zeros : (k n : ℕ) → drop {A = ℕ} k (replicate n 0) ≡ replicate (n - k) 0
 drop-zeros zero n = ap (λ (m : ℕ). replicate m 0) (sym (sub-zero n))
@@ -19,13 +21,13 @@ drop-zeros (suc k) zero = ap (λ (m : ℕ). replicate m 0) (sym (zero-sub (suc k
 drop-zeros (suc k) (suc n) = drop-zeros k n ∙ ap (λ (m : ℕ). replicate m 0) (sym (suc-sub-suc n k))
 
 -- bytes put to the front
-pub put-front : (out p q : List ℕ) → p ≡ q → length q ≤ length out → putAt out 0 p ≡ copied q out
+put-front : (out p q : List ℕ) → p ≡ q → length q ≤ length out → putAt out 0 p ≡ copied q out
 put-front out p q e h =
     let none : 0 + length q ≡ length q = omega arith in
     ap (putAt out 0) e ∙ put-is out 0 q (omega arith) ∙ ap (λ (n : ℕ). q ++ drop n out) none
 
 -- and more behind them
-pub put-two : (out front back q : List ℕ) → front ++ back ≡ q → length q ≤ length out → putAt (putAt out 0 front) (length front) back ≡ copied q out
+put-two : (out front back q : List ℕ) → front ++ back ≡ q → length q ≤ length out → putAt (putAt out 0 front) (length front) back ≡ copied q out
 put-two out front back q e h =
     let size : length front + length back ≡ length q = sym (length-append front back) ∙ ap length e in
     let rest : drop (length front + length back) (front ++ drop (length front) out) ≡ drop (length q) out =
@@ -38,10 +40,29 @@ put-two out front back q e h =
     ∙ ap (λ (l : List ℕ). front ++ back ++ l) rest
     ∙ ap (λ (l : List ℕ). l ++ drop (length q) out) e
 
--- a packet that begins in the second row, and one that begins in the first
-pub packet-back : (n at : ℕ) (a b : List ℕ) → length a ≤ at → take n (drop (at - length a) b) ≡ take n (drop at (a ++ b))
-packet-back n at a b h =
-    ap (take n) (sym (drop-over at a b ∙ ap (λ (l : List ℕ). l ++ drop (at - length a) b) (drop-of-length-le a h)))
+-- a packet put to the front: none, one that begins in the second row, and one that begins in the first
+pub delivers-none : (n : ℕ) (s out : List ℕ) → n ≡ 0 → out ≡ copied (take n s) out
+delivers-none n s out e = simp e
+
+module _ (n at : ℕ) (a b out after : List ℕ) where
+  pub delivers-back : (p : List ℕ) → after ≡ putAt out 0 p → p ≡ take n (drop (at - length a) b) → length a ≤ at
+      → length (take n (drop at (a ++ b))) ≤ length out → after ≡ copied (take n (drop at (a ++ b))) out
+  delivers-back p e q h fits =
+      e
+      ∙ put-front out p (take n (drop at (a ++ b)))
+      (q ∙ ap (take n) (sym (drop-over at a b ∙ ap (λ (l : List ℕ). l ++ drop (at - length a) b) (drop-of-length-le a h)))) fits
+
+  pub delivers-both : (front back half : List ℕ) → after ≡ putAt half (length front) back → half ≡ putAt out 0 front → front ≡ take n (drop at a)
+      → back ≡ take (n - length front) b → at < length a → length (take n (drop at (a ++ b))) ≤ length out
+      → after ≡ copied (take n (drop at (a ++ b))) out
+  delivers-both front back half e g p q h fits =
+      let here : 0 ≡ at - length a = omega arith in
+      e
+      ∙ ap (λ (o : List ℕ). putAt o (length front) back) g
+      ∙ put-two out front back (take n (drop at (a ++ b)))
+      (parts-are at n a b front back p (q ∙ ap (λ (k : ℕ). take (n - length front) (drop k b)) here)) fits
+
+pub ruleset delivering = (needs, part-short, delivers-none, delivers-back, delivers-both)
 
 -- a hold whose held bytes were moved to its front from the next position on, and behind them put what follows it of the bytes taken
 pub record Settling (row : List ℕ) (held next : ℕ) (taken : List ℕ) (keep : ℕ) (tail now : List ℕ) : Type 0 where
