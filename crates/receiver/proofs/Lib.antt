@@ -4,5 +4,6 @@ pub mod Shifts
 pub mod Aheads
 pub mod Finds
 pub mod Settles
+pub mod Rules
 pub mod Serves
 pub mod Demands
