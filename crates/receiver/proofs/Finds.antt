@@ -1,12 +1,11 @@
 -- What is found first, after a run of noise. Assumes nothing.
 use Prim.Native.Nat.{ℕ, zero, suc, _+_, _-_, _≤_, _<_, min}
 use native.Mathlib.Omega.{arith}
-use mathlib.Core.Bool.{Bool, true, false, not, _&&_, _||_, cond, and-false, and-eq-true-iff, true≢false, false≢true}
+use mathlib.Core.Bool.{Bool, true, false, not, _&&_, _||_, cond, and-eq-true-iff, true≢false, false≢true}
 use mathlib.Core.List.{List, [], _∷_, _++_, append-nil}
 use mathlib.Core.Logic.{_⊎_, inl, inr, ⊎-elim}
 use mathlib.Core.Path.{_≡_, refl, sym, ap, _∙_}
-use borrow.Author.Tests.{eqb-true, eq-eqb, ne-eqb, ltb-true, ltb-false, lt-ltb, le-ltb, le-leb, not-true, not-false}
-use borrow.Author.Needs.{needs}
+use borrow.Author.Tests.{eqb-true, eq-eqb, ne-eqb, ltb-true, ltb-false, le-leb, not-true, not-false}
 use lib.Dec.{leb, ltb, eqb}
 use lib.ListN.{length, getD, drop, length-drop, drop-of-length-le}
 use Rattle.reading.specs.declared.Standing.{Standing}
@@ -17,10 +16,10 @@ use Rattle.reading.specs.Standing.{whenThere, judgedFrame, started, stands}
 use Rattle.reading.specs.Finding.{noiseAt, onward, noise, found, first}
 use Rattle.reading.proofs.Stands.{nothing-waits, not-there}
 use Rattle.rows.specs.Runs.{startsOther, noiseRun}
-use Rattle.rows.proofs.Noises.{noise-long, others-none, others-some}
+use Rattle.rows.proofs.Noises.{noise-long}
 use Rattle.receiver.specs.Runs.{crossing, ahead, settled}
 
-pub ahead-zero : (f : Step) → ahead 0 f ≡ f
+ahead-zero : (f : Step) → ahead 0 f ≡ f
 unfolding ahead
 ahead-zero f =
     let p : 0 + f .at ≡ f .at = omega arith in
@@ -28,7 +27,7 @@ ahead-zero f =
     let r : 0 + f .next ≡ f .next = omega arith in
     λ i. record { event = f .event; carried = f .carried; at = p i; looked = q i; next = r i; count = f .count }
 
-pub ahead-onward : (n : ℕ) (f : Step) → onward (ahead n f) ≡ ahead (suc n) f
+ahead-onward : (n : ℕ) (f : Step) → onward (ahead n f) ≡ ahead (suc n) f
 unfolding ahead onward
 ahead-onward n f =
     let p : suc (n + f .at) ≡ suc n + f .at = omega arith in
@@ -36,7 +35,7 @@ ahead-onward n f =
     let r : suc (n + f .next) ≡ suc n + f .next = omega arith in
     λ i. record { event = f .event; carried = f .carried; at = p i; looked = q i; next = r i; count = f .count }
 
-pub ahead-on : (n : ℕ) (f : Step) → ahead n (onward f) ≡ ahead (suc n) f
+ahead-on : (n : ℕ) (f : Step) → ahead n (onward f) ≡ ahead (suc n) f
 unfolding ahead onward
 ahead-on n f =
     let p : n + suc (f .at) ≡ suc n + f .at = omega arith in
@@ -44,7 +43,7 @@ ahead-on n f =
     let r : n + suc (f .next) ≡ suc n + f .next = omega arith in
     λ i. record { event = f .event; carried = f .carried; at = p i; looked = q i; next = r i; count = f .count }
 
-pub ahead-ahead : (m n : ℕ) (f : Step) → ahead m (ahead n f) ≡ ahead (m + n) f
+ahead-ahead : (m n : ℕ) (f : Step) → ahead m (ahead n f) ≡ ahead (m + n) f
 unfolding ahead
 ahead-ahead m n f =
     let p : m + (n + f .at) ≡ m + n + f .at = omega arith in
@@ -119,7 +118,7 @@ unfolding first found
 first-skip M s x xs k e h = rw (e, ne-eqb (suc s) noiseAt (λ q. omega arith)) refl
 
 -- a run of noise is skipped
-pub first-run : (M s n : ℕ) (a b : List ℕ) → n ≤ noiseRun a → s + n < noiseAt → first M s (a ++ b) ≡ ahead n (first M (s + n) (drop n a ++ b))
+first-run : (M s n : ℕ) (a b : List ℕ) → n ≤ noiseRun a → s + n < noiseAt → first M s (a ++ b) ≡ ahead n (first M (s + n) (drop n a ++ b))
 unfolding noiseRun
 first-run M s zero a b h k =
     let same : s + 0 ≡ s = omega arith in
@@ -140,7 +139,7 @@ first-run M s (suc n) (x ∷ a) b h k = by-test (not (eqb x 64) || startsOther a
     by-test false e h ih = absurd (omega arith)
 
 -- the run that is left behind a part of it
-pub run-left : (n : ℕ) (a : List ℕ) → n ≤ noiseRun a → noiseRun a ≡ n + noiseRun (drop n a)
+run-left : (n : ℕ) (a : List ℕ) → n ≤ noiseRun a → noiseRun a ≡ n + noiseRun (drop n a)
 unfolding noiseRun
 run-left zero a h = omega arith
 run-left (suc n) [] h = absurd (omega arith)
@@ -254,34 +253,7 @@ first-alone M s n at a low run =
     none true = refl
     none false = refl
 
--- the count is not full there
-pub crossing-low : (left : ℕ) (b : List ℕ) (count : ℕ) → crossing left b count ≡ true → count < 65534
-unfolding crossing
-crossing-low left b count c =
-    let both = and-eq-true-iff (eqb left 1 && ltb count 65534) (startsOther b) .0 c in
-    ltb-true count 65534 (and-eq-true-iff (eqb left 1) (ltb count 65534) .0 (both .0) .1)
-
 -- nothing is held
 pub first-none : (M s : ℕ) (a b : List ℕ) → length a ≡ 0 → ahead 0 (first M s b) ≡ first M s (a ++ b)
 first-none M s [] b e = ahead-zero (first M s b)
 first-none M s (x ∷ a) b e = absurd (omega arith)
-
--- whether the last held byte is skipped, by the tests in their order
-module _ (left count : ℕ) (b : List ℕ) where
-  pub not-last : (left ≡ 1 → ⊥) → false ≡ crossing left b count
-  unfolding crossing
-  not-last h = simp (ne-eqb left 1 h)
-
-  pub count-full : 65534 ≤ count → false ≡ crossing left b count
-  unfolding crossing
-  count-full h = simp (le-ltb count 65534 h, and-false (eqb left 1))
-
-  pub none-follows : length b ≡ 0 → false ≡ crossing left b count
-  unfolding crossing
-  none-follows h = simp (others-none b h, and-false (eqb left 1 && ltb count 65534))
-
-  pub by-next : left ≡ 1 → count < 65534 → (length b ≡ 0 → ⊥) → not (eqb (getD b 0 0) 64) ≡ crossing left b count
-  unfolding crossing
-  by-next e l h = simp (eq-eqb left 1 e, lt-ltb count 65534 l) (others-some b h)
-
-pub ruleset crossings = (needs, not-last, count-full, none-follows, by-next)

@@ -3,6 +3,7 @@ pub mod Walks
 pub mod Shifts
 pub mod Aheads
 pub mod Finds
+pub mod Answers
 pub mod Settles
 pub mod Rules
 pub mod Serves

@@ -1,5 +1,5 @@
 -- `receiver::find::crosses` meets its contract by the tests in their order. Assumes nothing.
-use Rattle.receiver.proofs.Finds.{crossings}
+use Rattle.receiver.proofs.Answers.{crossings}
 use Rattle.receiver.proofs.find.crosses.Statement.{statement}
 use Rattle.receiver.proofs.find.crosses.Tie as tie
 
