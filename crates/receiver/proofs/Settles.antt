@@ -12,6 +12,7 @@ use Rattle.octets.specs.Parts.{putAt}
 use Rattle.octets.proofs.Parts.{put-is}
 use Rattle.octets.proofs.Rows.{drop-over, drop-take}
 use Rattle.reading.specs.Calls.{padTo, copied}
+use Rattle.reading.proofs.Pads.{pad-long}
 use Rattle.receiver.specs.Shifts.{shifted}
 use Rattle.receiver.proofs.Spans.{parts-are, part-short}
 
@@ -77,7 +78,7 @@ pub record Settling (row : List ℕ) (held next : ℕ) (taken : List ℕ) (keep 
   pub moves : front ≡ shifted row next keep
   pub puts : now ≡ putAt front keep tail
 
-module _ (row : List ℕ) (held next : ℕ) (taken : List ℕ) (keep : ℕ) (tail o : List ℕ) (s : Settling row held next taken keep tail o) where
+module _ {row : List ℕ} {held next : ℕ} {taken : List ℕ} {keep : ℕ} {tail o : List ℕ} (s : Settling row held next taken keep tail o) where
   abbrev rest : List ℕ
   rest = drop next (take held row ++ taken)
 
@@ -154,9 +155,12 @@ module _ (row : List ℕ) (held next : ℕ) (taken : List ℕ) (keep : ℕ) (tai
   settled-long h = put-rest ∙ ap (λ (l : List ℕ). rest ++ l) (zero-behind (length rest) (omega (arith, new-is, h)))
 
   -- where fewer are, and the room up to where they ended is wiped
-  module _ (n : ℕ) (new : n ≡ keep + length tail) (w : List ℕ) (fewer : n < held) (wipes : w ≡ replicate (length (take (held - n) (drop n o))) 0) where
+  module _ (w : List ℕ) (fewer : keep + length tail < held) (wipes : w ≡ replicate (length (take (held - (keep + length tail)) (drop (keep + length tail) o))) 0) where
+    abbrev n : ℕ
+    n = keep + length tail
+
     at-end : n ≡ length rest
-    at-end = new ∙ new-is
+    at-end = new-is
 
     behind : drop n o ≡ drop n row
     behind = ap (λ (m : ℕ). drop m o) at-end ∙ ap (drop (length rest)) put-rest ∙ drop-append-seam rest (drop (length rest) row) ∙ ap (λ (m : ℕ). drop m row) (sym at-end)
@@ -182,3 +186,8 @@ module _ (row : List ℕ) (held next : ℕ) (taken : List ℕ) (keep : ℕ) (tai
         ∙ ap (λ (l : List ℕ). rest ++ (l ++ drop (held - n) (drop n o))) zeros
         ∙ ap (λ (l : List ℕ). rest ++ (replicate (held - n) 0 ++ l)) after
         ∙ ap (λ (l : List ℕ). rest ++ l) (replicate-append-replicate (held - n) (length row - held) 0 ∙ ap (λ (m : ℕ). replicate m 0) all)
+
+    pub short-long : length (take n o ++ (w ++ drop (held - n) (drop n o))) ≡ length row
+    short-long = ap length settled-short ∙ pad-long (length row) rest (s .fits)
+
+pub ruleset settles = (needs, new-is, settled-size, settled-long, settled-short, short-long)
