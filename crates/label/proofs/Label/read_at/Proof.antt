@@ -7,17 +7,7 @@ use Rattle.label.proofs.Label.read_at.Statement.{statement}
 use Rattle.label.proofs.Label.read_at.Tie as tie
 
 returns : tie.Need-returns
-returns c = ap labelOf (c .six-at .ensures) ∙ label-six (c .before .before .args .s .now) (c .before .before .args .at)
+returns c = let args = c .before .before .args in ap labelOf (c .six-at .ensures) ∙ label-six (args .s .now) (args .at)
 
 pub read-at-spec : {M : Type 1} → statement M
-read-at-spec =
-    tie.close
-    (tie.spec
-    (λ c κs. search needs)
-    (λ c. search needs)
-    (λ c. search needs)
-    (λ c. search needs)
-    (λ c. search needs)
-    (λ c. search needs)
-    (λ c. search needs)
-    returns)
+read-at-spec {M} = tie.close {M = M} (search (tie.spec, returns, needs))
