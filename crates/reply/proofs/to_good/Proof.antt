@@ -1,16 +1,12 @@
 -- `reply::to_good` meets its contract by its tests. Assumes nothing.
-use borrow.Author.Tests.{eq-eqb, ne-eqb}
+use Rattle.verdict.proofs.Walking.{compared}
 use Rattle.reply.proofs.to_good.Statement.{statement}
 use Rattle.reply.proofs.to_good.Tie as tie
 
-returns : tie.Need-returns
-returns c = simp (eq-eqb _ _ (c .if1 .taken))
-
-returns-2 : tie.Need-returns-2
-returns-2 c = simp (ne-eqb _ _ (c .before .if1 .left), eq-eqb _ _ (c .if2 .taken))
-
-returns-3 : tie.Need-returns-3
-returns-3 c = simp (ne-eqb _ _ (c .before .if1 .left), ne-eqb _ _ (c .if2 .left))
-
 pub to-good-spec : {M : Type 1} → statement M
-to-good-spec = tie.close (tie.spec returns returns-2 returns-3)
+to-good-spec =
+    tie.close
+    (tie.spec
+    (λ c. search compared)  -- command == 1
+    (λ c. search compared)  -- command == 2
+    (λ c. search compared))

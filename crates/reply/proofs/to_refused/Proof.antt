@@ -1,19 +1,13 @@
 -- `reply::to_refused` meets its contract by its tests. Assumes nothing.
-use borrow.Author.Tests.{eq-eqb, ne-eqb}
+use Rattle.verdict.proofs.Walking.{compared}
 use Rattle.reply.proofs.to_refused.Statement.{statement}
 use Rattle.reply.proofs.to_refused.Tie as tie
 
-returns : tie.Need-returns
-returns c = simp (eq-eqb _ _ (c .if1 .taken))
-
-returns-2 : tie.Need-returns-2
-returns-2 c = simp (ne-eqb _ _ (c .before .if1 .left), eq-eqb _ _ (c .if2 .taken))
-
-returns-3 : tie.Need-returns-3
-returns-3 c = simp (ne-eqb _ _ (c .before .before .if1 .left), ne-eqb _ _ (c .before .if2 .left), eq-eqb _ _ (c .if3 .taken))
-
-returns-4 : tie.Need-returns-4
-returns-4 c = simp (ne-eqb _ _ (c .before .before .if1 .left), ne-eqb _ _ (c .before .if2 .left), ne-eqb _ _ (c .if3 .left))
-
 pub to-refused-spec : {M : Type 1} → statement M
-to-refused-spec = tie.close (tie.spec returns returns-2 returns-3 returns-4)
+to-refused-spec =
+    tie.close
+    (tie.spec
+    (λ c. search compared)  -- command == 3
+    (λ c. search compared)  -- command == 5
+    (λ c. search compared)  -- command == 6
+    (λ c. search compared))
