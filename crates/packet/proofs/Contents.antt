@@ -1,47 +1,74 @@
--- One law for each answer of what stands in a packet's frame, where c is its command. Assumes nothing.
-use Prim.Native.Nat.{ℕ, _≤_, _<_}
-use mathlib.Core.Bool.{true, false}
+-- The laws of what stands in a packet's frame: what its tests come to at the values that were read, and what decides where they are passed.
+-- Assumes nothing.
+use Prim.Native.Nat.{ℕ, _+_, _≤_, _<_}
+use mathlib.Core.Bool.{Bool, true, false, not}
 use mathlib.Core.List.{List}
-use mathlib.Core.Path.{_≡_, refl, sym, ap, _∙_}
+use mathlib.Core.Path.{_≡_, refl, sym, ap, subst, _∙_}
 use borrow.Author.Tests.{le-leb, lt-leb, eq-eqb, ne-eqb}
-use lib.ListN.{getD, drop}
-use Rattle.frame.specs.Frame.{frameTests}
+use lib.Dec.{leb, eqb}
+use lib.ListN.{drop}
+use Rattle.frame.specs.Frame.{unitLength, frameTests}
 use Rattle.kinds.specs.declared.Row.{Row}
+use Rattle.label.specs.declared.Label.{Label}
 use Rattle.label.specs.Times.{labelOf, judged, allowed}
+use Rattle.octets.specs.Parts.{part}
+use Rattle.octets.proofs.Flags.{on, off}
 use Rattle.unit.specs.Units.{judgedUnder}
 use Rattle.verdict.specs.declared.Verdict.{Verdict}
-use Rattle.verdict.specs.Orders.{inOrder, refusal, good, isGood}
-use Rattle.verdict.specs.Refusals.{VERSION, COMMAND, TIME}
+use Rattle.verdict.specs.Orders.{inOrder, good, isGood}
 use Rattle.verdict.proofs.Order.{stays, goes-on}
-use Rattle.packet.specs.Frames.{commandOf, unitOf, judgedContent, judgedPacket}
+use Rattle.verdict.proofs.Walking.{in-order}
+use Rattle.packet.specs.Frames.{commandOf, unitOf, headerTests, judgedContent, judgedPacket}
 
-module _ (rs : List Row) (p : List ℕ) where
-  pub another-version : (getD p 4 0 ≡ 1 → ⊥) → refusal VERSION 0 ≡ judgedContent rs p
-  unfolding judgedContent inOrder
-  another-version h = simp (ne-eqb (getD p 4 0) 1 h)
+-- a byte x that was read as b, against k
+module _ (x k b : ℕ) (read : b ≡ x) where
+  pub read-equal : b ≡ k → eqb x k ≡ true
+  read-equal e = eq-eqb x k (sym read ∙ e)
 
-  pub command-low : getD p 4 0 ≡ 1 → commandOf p < 1 → refusal COMMAND 0 ≡ judgedContent rs p
-  unfolding judgedContent inOrder
-  command-low v h = simp (eq-eqb (getD p 4 0) 1 v, lt-leb 1 (commandOf p) h)
+  pub read-unequal : (b ≡ k → ⊥) → eqb x k ≡ false
+  read-unequal n = ne-eqb x k (λ e. n (read ∙ e))
 
-  pub command-high : getD p 4 0 ≡ 1 → 1 ≤ commandOf p → 6 < commandOf p → refusal COMMAND 0 ≡ judgedContent rs p
-  unfolding judgedContent inOrder
-  command-high v l h = simp (eq-eqb (getD p 4 0) 1 v, le-leb 1 (commandOf p) l, lt-leb (commandOf p) 6 h)
+  pub read-from : k ≤ b → leb k x ≡ true
+  read-from h = le-leb k x (subst (λ (y : ℕ). k ≤ y) read h)
 
-  module _ (v : getD p 4 0 ≡ 1) (l : 1 ≤ commandOf p) (h : commandOf p ≤ 6) where
-    pub bad-time : allowed (judged (labelOf (drop 6 p))) ≡ false → refusal TIME 0 ≡ judgedContent rs p
-    unfolding judgedContent inOrder
-    bad-time t = simp (eq-eqb (getD p 4 0) 1 v, le-leb 1 (commandOf p) l, le-leb (commandOf p) 6 h, t)
+  pub read-below : b < k → leb k x ≡ false
+  read-below h = lt-leb k x (subst (λ (y : ℕ). y < k) read h)
 
-    pub unit-decides : allowed (judged (labelOf (drop 6 p))) ≡ true → judgedUnder rs (commandOf p) (unitOf p) ≡ judgedContent rs p
-    unfolding judgedContent inOrder
-    unit-decides t = simp (eq-eqb (getD p 4 0) 1 v, le-leb 1 (commandOf p) l, le-leb (commandOf p) 6 h, t)
+  pub read-to : b ≤ k → leb x k ≡ true
+  read-to h = le-leb x k (subst (λ (y : ℕ). y ≤ k) read h)
 
-  -- a frame that is refused, and one that is not
-  pub frame-decides : (v : Verdict) → v ≡ inOrder (frameTests 1024 p) good → isGood v ≡ false → v ≡ judgedPacket rs p
+  pub read-above : k < b → leb x k ≡ false
+  read-above h = lt-leb x k (subst (λ (y : ℕ). k < y) read h)
+
+-- the label l that was read at a place, and whether it may stand
+module _ (p : List ℕ) (at : ℕ) (l : Label) (g : Bool) (read : l ≡ labelOf (drop at p)) (told : g ≡ allowed (judged l)) where
+  pub label-stands : not g ≡ false → allowed (judged (labelOf (drop at p))) ≡ true
+  label-stands n = ap (λ (x : Label). allowed (judged x)) (sym read) ∙ on told n
+
+  pub label-falls : not g ≡ true → allowed (judged (labelOf (drop at p))) ≡ false
+  label-falls n = ap (λ (x : Label). allowed (judged x)) (sym read) ∙ off told n
+
+module _ (rs : List Row) (p : List ℕ) (v : Verdict) where
+  pub content-is : v ≡ inOrder (headerTests p) (judgedUnder rs (commandOf p) (unitOf p)) → v ≡ judgedContent rs p
+  unfolding judgedContent
+  content-is e = e
+
+  -- the unit s under its command c, l being its length
+  pub unit-decides : (c l : ℕ) (s : List ℕ) → v ≡ judgedUnder rs c s → c ≡ commandOf p → s ≡ part p 27 (27 + l) → l ≡ unitLength p → v ≡ judgedUnder rs (commandOf p) (unitOf p)
+  unit-decides c l s e q t m =
+      e
+      ∙ ap (λ (k : ℕ). judgedUnder rs k s) q
+      ∙ ap (judgedUnder rs (commandOf p)) (t ∙ ap (λ (k : ℕ). part p 27 (27 + k)) m)
+
+pub ruleset contents =
+    (content-is, unit-decides, in-order, read-equal, read-unequal, read-from, read-below, read-to, read-above, label-stands, label-falls)
+
+-- a frame that is refused, and one that is not: f is its verdict, g whether it is good
+module _ (rs : List Row) (p : List ℕ) (f : Verdict) (g : Bool) (framed : f ≡ inOrder (frameTests 1024 p) good) (told : g ≡ isGood f) where
+  pub frame-decides : not g ≡ true → f ≡ judgedPacket rs p
   unfolding judgedPacket
-  frame-decides v e b = e ∙ sym (stays (frameTests 1024 p) (judgedContent rs p) (ap isGood (sym e) ∙ b))
+  frame-decides n = framed ∙ sym (stays (frameTests 1024 p) (judgedContent rs p) (ap isGood (sym framed) ∙ off told n))
 
-  pub content-decides : isGood (inOrder (frameTests 1024 p) good) ≡ true → judgedContent rs p ≡ judgedPacket rs p
+  pub content-decides : (v : Verdict) → not g ≡ false → v ≡ judgedContent rs p → v ≡ judgedPacket rs p
   unfolding judgedPacket
-  content-decides g = sym (goes-on (frameTests 1024 p) (judgedContent rs p) refl g)
+  content-decides v n e = e ∙ sym (goes-on (frameTests 1024 p) (judgedContent rs p) refl (ap isGood (sym framed) ∙ on told n))

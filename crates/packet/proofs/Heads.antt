@@ -1,5 +1,6 @@
 -- A header is read from the first 27 bytes alone, and zeros behind the end read as what is missing. Assumes nothing.
 use Prim.Native.Nat.{ℕ, zero, suc, _+_, _≤_, _<_}
+use native.Mathlib.Nat.{le-of-lt}
 use native.Mathlib.Omega.{arith}
 use mathlib.Core.List.{List, [], _∷_, _++_}
 use mathlib.Core.Path.{_≡_, refl, sym, ap, _∙_}
@@ -12,6 +13,7 @@ use Rattle.octets.specs.Numbers.{lowFirst}
 use Rattle.octets.specs.Parts.{oneByOne, putAt}
 use Rattle.octets.proofs.Numbers.{low-two}
 use Rattle.octets.proofs.Parts.{put-is}
+use Rattle.packet.specs.declared.Header.{Header}
 use Rattle.packet.specs.Headers.{headerOf}
 
 pub header-same : (p q : List ℕ) → ((i : ℕ) → i < 27 → getD p i 0 ≡ getD q i 0) → headerOf p ≡ headerOf q
@@ -35,7 +37,13 @@ header-same p q h =
     six : (at : ℕ) → at ≤ 18 → oneByOne p at 6 ≡ oneByOne q at 6
     six at l =
         λ i.
-        h at (omega arith) i ∷ h (suc at) (omega arith) i ∷ h (suc (suc at)) (omega arith) i ∷ h (suc (suc (suc at))) (omega arith) i ∷ h (suc (suc (suc (suc at)))) (omega arith) i ∷ h (suc (suc (suc (suc (suc at))))) (omega arith) i ∷ []
+        h at (omega arith) i
+        ∷ h (suc at) (omega arith) i
+        ∷ h (suc (suc at)) (omega arith) i
+        ∷ h (suc (suc (suc at))) (omega arith) i
+        ∷ h (suc (suc (suc (suc at)))) (omega arith) i
+        ∷ h (suc (suc (suc (suc (suc at))))) (omega arith) i
+        ∷ []
 
 pub header-alone : (p : List ℕ) (n : ℕ) → n ≡ 27 → headerOf (take n (drop 0 p)) ≡ headerOf p
 header-alone p n e = header-same (take n p) p (λ i l. getD-take n p i 0 (omega arith))
@@ -58,3 +66,7 @@ header-padded p n l =
     let fits : length p ≤ length zs = omega (arith, length-replicate {A = ℕ} n 0) in
     ap headerOf (put-is zs 0 p (omega arith))
     ∙ header-same (p ++ drop (0 + length p) zs) p (λ i m. behind p (drop (0 + length p) zs) i (λ k. getD-drop (0 + length p) zs k 0 ∙ zeros n (0 + length p + k)))
+
+-- a short packet p was put into b, and the header h read from there
+pub header-short : (p b : List ℕ) (h : Header) → length p < 27 → b ≡ putAt (replicate 27 0) 0 p → h ≡ headerOf b → h ≡ headerOf p
+header-short p b h l e q = q ∙ ap headerOf e ∙ header-padded p 27 (le-of-lt l)

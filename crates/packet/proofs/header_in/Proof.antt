@@ -1,7 +1,7 @@
 -- `packet::header_in` meets its contract field by field. Assumes nothing.
-use native.Mathlib.Omega.{arith}
 use mathlib.Core.Path.{_≡_, refl, _∙_}
 use borrow.Author.Needs.{needs}
+use Rattle.octets.proofs.Asked.{unasked}
 use Rattle.packet.specs.declared.Header.{Header}
 use Rattle.packet.proofs.Heads.{header-alone}
 use Rattle.packet.proofs.header_in.Statement.{statement}
@@ -9,17 +9,19 @@ use Rattle.packet.proofs.header_in.Tie as tie
 
 returns : tie.Need-returns
 returns c =
+    let at-label = c .before .before .before in
+    let at-serial = at-label .before .before in
     let fields : _≡_ {A = Header} _ _ =
     λ i.
     record {
-      serial = c .before .before .before .before .before .two-at .ensures i;
-      version = c .before .before .before .before .byte-at .ensures i;
-      label = c .before .before .before .read-at .ensures i;
+      serial = at-serial .two-at .ensures i;
+      version = at-label .before .byte-at .ensures i;
+      label = at-label .read-at .ensures i;
       source = c .before .before .six-at .ensures i;
       destination = c .before .six-at2 .ensures i;
       command = c .byte-at2 .ensures i;
     } in
-    fields ∙ header-alone (c .before .before .before .before .before .before .before .before .args .p .now) 27 refl
+    fields ∙ header-alone (at-serial .before .before .before .args .p .now) 27 refl
 
 pub header-in-spec : {M : Type 1} → statement M
 header-in-spec =
@@ -28,10 +30,10 @@ header-in-spec =
     (λ c. search needs)
     (λ c. search needs)
     (λ c. search needs)
-    (λ c κs. search needs)
-    (λ c κs. search needs)
-    (λ c κs. search needs)
-    (λ c κs. search needs)
-    (λ c κs. search needs)
-    (λ c κs. search needs)
+    unasked
+    unasked
+    unasked
+    unasked
+    unasked
+    unasked
     returns)
