@@ -1,4 +1,4 @@
--- The laws of a label: its two round trips, and how a judgement is reached. Assumes nothing.
+-- The laws of a label: its two round trips, and that it is its six bytes. Assumes nothing.
 use Prim.Native.Nat.{ℕ, _+_, _≤_, _<_}
 use native.Mathlib.Numerals.{add-one, add-two, add-three, add-four, add-five}
 use native.Mathlib.Omega.{arith}
@@ -19,7 +19,9 @@ same s l a b c d e f = λ i. record { second = a i; minute = b i; hour = c i; da
 
 -- six bytes read from a place on stand for the label there
 pub label-six : (s : List ℕ) (at : ℕ) → labelOf (oneByOne s at 6) ≡ labelOf (drop at s)
-label-six s at = same (drop at s) (labelOf (oneByOne s at 6)) (each 0 at (omega arith)) (each 1 _ (add-one at)) (each 2 _ (add-two at)) (each 3 _ (add-three at)) (each 4 _ (add-four at)) (each 5 _ (add-five at))
+label-six s at =
+    same (drop at s) (labelOf (oneByOne s at 6)) (each 0 at (omega arith)) (each 1 _ (add-one at)) (each 2 _ (add-two at)) (each 3 _ (add-three at))
+    (each 4 _ (add-four at)) (each 5 _ (add-five at))
   where
     each : (k i : ℕ) → at + k ≡ i → getD s i 0 ≡ getD (drop at s) k 0
     each k i e = sym (getD-drop at s k 0 ∙ ap (λ (n : ℕ). getD s n 0) e)

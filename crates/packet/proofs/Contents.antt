@@ -1,11 +1,9 @@
 -- The laws of what stands in a packet's frame: what its tests come to at the values that were read, and what decides where they are passed.
 -- Assumes nothing.
-use Prim.Native.Nat.{ℕ, _+_, _≤_, _<_}
+use Prim.Native.Nat.{ℕ, _+_}
 use mathlib.Core.Bool.{Bool, true, false, not}
 use mathlib.Core.List.{List}
-use mathlib.Core.Path.{_≡_, refl, sym, ap, subst, _∙_}
-use borrow.Author.Tests.{le-leb, lt-leb, eq-eqb, ne-eqb}
-use lib.Dec.{leb, eqb}
+use mathlib.Core.Path.{_≡_, refl, sym, ap, _∙_}
 use lib.ListN.{drop}
 use Rattle.frame.specs.Frame.{unitLength, frameTests}
 use Rattle.kinds.specs.declared.Row.{Row}
@@ -14,31 +12,12 @@ use Rattle.label.specs.Times.{labelOf, judged, allowed}
 use Rattle.octets.specs.Parts.{part}
 use Rattle.octets.proofs.Flags.{on, off}
 use Rattle.unit.specs.Units.{judgedUnder}
+use Rattle.unit.proofs.Readings.{as-read}
 use Rattle.verdict.specs.declared.Verdict.{Verdict}
 use Rattle.verdict.specs.Orders.{inOrder, good, isGood}
 use Rattle.verdict.proofs.Order.{stays, goes-on}
 use Rattle.verdict.proofs.Walking.{in-order}
 use Rattle.packet.specs.Frames.{commandOf, unitOf, headerTests, judgedContent, judgedPacket}
-
--- a byte x that was read as b, against k
-module _ (x k b : ℕ) (read : b ≡ x) where
-  pub read-equal : b ≡ k → eqb x k ≡ true
-  read-equal e = eq-eqb x k (sym read ∙ e)
-
-  pub read-unequal : (b ≡ k → ⊥) → eqb x k ≡ false
-  read-unequal n = ne-eqb x k (λ e. n (read ∙ e))
-
-  pub read-from : k ≤ b → leb k x ≡ true
-  read-from h = le-leb k x (subst (λ (y : ℕ). k ≤ y) read h)
-
-  pub read-below : b < k → leb k x ≡ false
-  read-below h = lt-leb k x (subst (λ (y : ℕ). y < k) read h)
-
-  pub read-to : b ≤ k → leb x k ≡ true
-  read-to h = le-leb x k (subst (λ (y : ℕ). y ≤ k) read h)
-
-  pub read-above : k < b → leb x k ≡ false
-  read-above h = lt-leb x k (subst (λ (y : ℕ). k < y) read h)
 
 -- the label l that was read at a place, and whether it may stand
 module _ (p : List ℕ) (at : ℕ) (l : Label) (g : Bool) (read : l ≡ labelOf (drop at p)) (told : g ≡ allowed (judged l)) where
@@ -61,7 +40,7 @@ module _ (rs : List Row) (p : List ℕ) (v : Verdict) where
       ∙ ap (judgedUnder rs (commandOf p)) (t ∙ ap (λ (k : ℕ). part p 27 (27 + k)) m)
 
 pub ruleset contents =
-    (content-is, unit-decides, in-order, read-equal, read-unequal, read-from, read-below, read-to, read-above, label-stands, label-falls)
+    (in-order, as-read, content-is, unit-decides, label-stands, label-falls)
 
 -- a frame that is refused, and one that is not: f is its verdict, g whether it is good
 module _ (rs : List Row) (p : List ℕ) (f : Verdict) (g : Bool) (framed : f ≡ inOrder (frameTests 1024 p) good) (told : g ≡ isGood f) where

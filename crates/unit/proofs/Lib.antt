@@ -1,3 +1,4 @@
+pub mod Readings
 pub mod Walks
 pub mod Shapes
 pub mod Times

@@ -1,9 +1,7 @@
 -- `packet::header_in` meets its contract field by field. Assumes nothing.
-use mathlib.Core.Path.{_≡_, refl, _∙_}
 use borrow.Author.Needs.{needs}
 use Rattle.octets.proofs.Asked.{unasked}
-use Rattle.packet.specs.declared.Header.{Header}
-use Rattle.packet.proofs.Heads.{header-alone}
+use Rattle.packet.proofs.Heads.{header-front}
 use Rattle.packet.proofs.header_in.Statement.{statement}
 use Rattle.packet.proofs.header_in.Tie as tie
 
@@ -11,17 +9,8 @@ returns : tie.Need-returns
 returns c =
     let at-label = c .before .before .before in
     let at-serial = at-label .before .before in
-    let fields : _≡_ {A = Header} _ _ =
-    λ i.
-    record {
-      serial = at-serial .two-at .ensures i;
-      version = at-label .before .byte-at .ensures i;
-      label = at-label .read-at .ensures i;
-      source = c .before .before .six-at .ensures i;
-      destination = c .before .six-at2 .ensures i;
-      command = c .byte-at2 .ensures i;
-    } in
-    fields ∙ header-alone (at-serial .before .before .before .args .p .now) 27 refl
+    header-front (at-serial .before .before .before .args .p .now) (at-serial .two-at .ensures) (at-label .before .byte-at .ensures)
+    (at-label .read-at .ensures) (c .before .before .six-at .ensures) (c .before .six-at2 .ensures) (c .byte-at2 .ensures)
 
 pub header-in-spec : {M : Type 1} → statement M
 header-in-spec =
