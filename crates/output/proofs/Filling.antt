@@ -20,17 +20,21 @@ six a h = one-by-one a 0 6 (omega arith) ∙ take-all 6 a (omega arith)
 pub head-long : (h : Header) (l : ℕ) → length (h .source) ≡ 6 → length (h .destination) ≡ 6 → length (headBytes h l) ≡ 27
 unfolding headBytes bytesOf
 head-long h l a b =
-    omega
-    (arith, length-append (h .source) (h .destination ++ (bytesOf 2 l ++ (h .command ∷ []))), length-append (h .destination) (bytesOf 2 l ++ (h .command ∷ [])), length-append (bytesOf 2 l) (h .command ∷ []))
+    omega (
+      arith,
+      length-append (h .source) (h .destination ++ (bytesOf 2 l ++ (h .command ∷ []))),
+      length-append (h .destination) (bytesOf 2 l ++ (h .command ∷ [])),
+      length-append (bytesOf 2 l) (h .command ∷ []),
+    )
 
 -- the 27 bytes as they are spelt out, from the bytes of the serial, of L and of the label
-spelt : Header → List ℕ → List ℕ → List ℕ → List ℕ
+abbrev pub spelt : Header → List ℕ → List ℕ → List ℕ → List ℕ
 spelt h s k t =
     64 ∷ 64 ∷ getD s 0 0 ∷ getD s 1 0 ∷ 1 ∷ h .version ∷ (oneByOne t 0 6 ++ (oneByOne (h .source) 0 6 ++ (oneByOne (h .destination) 0 6 ++ (getD k 0 0 ∷ getD k 1 0 ∷ h .command ∷ []))))
 
-pub head-is : (h : Header) (l : ℕ) (s k t : List ℕ) → s ≡ bytesOf 2 (h .serial) → k ≡ bytesOf 2 l → t ≡ labelBytes (h .label) → length (h .source) ≡ 6 → length (h .destination) ≡ 6
-    → 64 ∷ 64 ∷ getD s 0 0 ∷ getD s 1 0 ∷ 1 ∷ h .version ∷ (oneByOne t 0 6 ++ (oneByOne (h .source) 0 6 ++ (oneByOne (h .destination) 0 6 ++ (getD k 0 0 ∷ getD k 1 0 ∷ h .command ∷ [])))) ≡ headBytes h l
-unfolding headBytes bytesOf spelt
+pub head-is : (h : Header) (l : ℕ) (s k t : List ℕ) → s ≡ bytesOf 2 (h .serial) → k ≡ bytesOf 2 l → t ≡ labelBytes (h .label)
+    → length (h .source) ≡ 6 → length (h .destination) ≡ 6 → spelt h s k t ≡ headBytes h l
+unfolding headBytes bytesOf
 head-is h l s k t es ek et a b =
     let front : List ℕ → List ℕ = λ x. 64 ∷ 64 ∷ (bytesOf 2 (h .serial) ++ (1 ∷ h .version ∷ (labelBytes (h .label) ++ x))) in
     ap (λ (x : List ℕ). spelt h x k t) es
@@ -39,7 +43,7 @@ head-is h l s k t es ek et a b =
     ∙ ap (λ (x : List ℕ). front (x ++ (oneByOne (h .destination) 0 6 ++ (bytesOf 2 l ++ (h .command ∷ []))))) (six (h .source) a)
     ∙ ap (λ (x : List ℕ). front (h .source ++ (x ++ (bytesOf 2 l ++ (h .command ∷ []))))) (six (h .destination) b)
 
-module _ (o : List ℕ) (h : Header) (l : ℕ) (few : l ≤ 1024) (room : 30 + l ≤ length o) (hd : List ℕ) (head : hd ≡ headBytes h l) (long : length hd ≡ 27) where
+module _ (o : List ℕ) (h : Header) (l : ℕ) (hd : List ℕ) (few : l ≤ 1024) (room : 30 + l ≤ length o) (head : hd ≡ headBytes h l) (long : length hd ≡ 27) where
   u : List ℕ
   u = part o 27 (27 + l)
 
@@ -77,17 +81,19 @@ module _ (o : List ℕ) (h : Header) (l : ℕ) (few : l ≤ 1024) (room : 30 + l
       ap (λ (x : List ℕ). total x % 256)
       (ap (take 1049) sealed ∙ take-all 1049 (drop 2 hd ++ u) (omega (arith, length-append (drop 2 hd) u, length-drop 2 hd, u-long)))
 
-  pub filled : (q : List ℕ) (s : ℕ) → q ≡ putAt o 0 hd → s ≡ total (take 1049 (take (27 + l - 2) (drop 2 q))) % 256
-      → putAt q (27 + l) (s ∷ 35 ∷ 35 ∷ []) ≡ putAt o 0 (packetBytes h (part o 27 (27 + l)))
+  pub filled : (q r : List ℕ) (s : ℕ) → q ≡ putAt o 0 hd → s ≡ total (take 1049 (take (27 + l - 2) (drop 2 q))) % 256
+      → r ≡ putAt q (27 + l) (s ∷ 35 ∷ 35 ∷ []) → r ≡ putAt o 0 (packetBytes h (part o 27 (27 + l)))
   unfolding packetBytes u o1
-  filled q s put summed =
+  filled q r s put summed last =
       let t : List ℕ = tailBytes (drop 2 hd ++ u) in
+      let stood : u ≡ take (length u) (drop 27 o1) = u-is ∙ ap (take l) (sym behind) ∙ ap (λ (n : ℕ). take n (drop 27 o1)) (sym u-long) in
       let right : s ≡ total (drop 2 hd ++ u) % 256 = summed ∙ ap (λ (x : List ℕ). total (take 1049 (take (27 + l - 2) (drop 2 x))) % 256) put ∙ sum-is in
       let at : 27 ≡ 0 + length hd = omega (arith, long) in
       let whole : headBytes h (length u) ≡ hd = ap (headBytes h) u-long ∙ sym head in
-      ap (λ (x : List ℕ). putAt x (27 + l) (s ∷ 35 ∷ 35 ∷ [])) put
+      last
+      ∙ ap (λ (x : List ℕ). putAt x (27 + l) (s ∷ 35 ∷ 35 ∷ [])) put
       ∙ ap (λ (x : ℕ). putAt o1 (27 + l) (x ∷ 35 ∷ 35 ∷ [])) right
-      ∙ ap (λ (x : List ℕ). putAt x (27 + l) t) (sym (put-same o1 27 u (omega (arith, u-long, length-put o 0 hd)) (u-is ∙ ap (take l) (sym behind) ∙ ap (λ (n : ℕ). take n (drop 27 o1)) (sym u-long))))
+      ∙ ap (λ (x : List ℕ). putAt x (27 + l) t) (sym (put-same o1 27 u (omega (arith, u-long, length-put o 0 hd)) stood))
       ∙ ap (λ (n : ℕ). putAt (putAt o1 27 u) (27 + n) t) (sym u-long)
       ∙ put-put o1 27 u t (omega (arith, u-long, length-put o 0 hd))
       ∙ ap (λ (n : ℕ). putAt o1 n (u ++ t)) at

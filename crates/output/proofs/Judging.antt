@@ -1,67 +1,60 @@
--- One law for each answer of the packet writer. Assumes nothing.
-use Prim.Native.Nat.{ℕ, _+_, _≤_, _<_}
+-- What the packet writer answers and leaves in its output, by the verdict on the room and the tests that follow it. Assumes nothing.
+use Prim.Native.Nat.{ℕ, _+_, _≤_}
+use native.Mathlib.Omega.{arith}
 use mathlib.Core.Bool.{true, false}
 use mathlib.Core.List.{List}
 use mathlib.Core.Path.{_≡_, refl, sym, ap, _∙_}
-use borrow.Author.Tests.{le-leb, lt-leb, leb-true}
+use borrow.Author.Tests.{leb-true}
 use lib.ListN.{length}
+use mir.Syntax.{w64}
+use mir.Val.{Fits}
 use Rattle.kinds.specs.declared.Row.{Row}
-use Rattle.label.specs.Times.{judged, allowed}
 use Rattle.octets.specs.Parts.{part, putAt}
 use Rattle.packet.specs.declared.Header.{Header}
 use Rattle.output.specs.Packets.{packetBytes}
 use Rattle.unit.specs.Units.{judgedUnder}
 use Rattle.verdict.specs.declared.Verdict.{Verdict}
-use Rattle.verdict.specs.Orders.{inOrder, refusal, good, isGood}
-use Rattle.verdict.specs.Refusals.{LENGTH, ROOM, COMMAND, TIME}
+use Rattle.verdict.specs.Orders.{inOrder, good, isGood}
 use Rattle.verdict.proofs.Order.{stays, goes-on, good-held}
+use Rattle.verdict.proofs.Walking.{in-order, flag-set, flag-clear}
 use Rattle.output.specs.Writing.{roomTests, fieldTests, packetVerdict, writtenPacket}
 
 module _ (out : List ℕ) (l n : ℕ) where
-  pub length-over : 1024 < l → refusal LENGTH 0 ≡ inOrder (roomTests out l n) good
-  unfolding inOrder
-  length-over h = simp (lt-leb l 1024 h)
-
-  pub no-room : l ≤ 1024 → length out < n + l → refusal ROOM 0 ≡ inOrder (roomTests out l n) good
-  unfolding inOrder
-  no-room m h = simp (le-leb l 1024 m, lt-leb (n + l) (length out) h)
-
-  pub room : l ≤ 1024 → n + l ≤ length out → good ≡ inOrder (roomTests out l n) good
-  unfolding inOrder
-  room m h = simp (le-leb l 1024 m, le-leb (n + l) (length out) h)
-
   -- what a good verdict on the room tells
   pub roomy : isGood (inOrder (roomTests out l n) good) ≡ true → (l ≤ 1024) × (n + l ≤ length out)
   roomy g =
       let h = good-held (roomTests out l n) good refl g .0 in
       (leb-true l 1024 (h .0), leb-true (n + l) (length out) (h .1 .0))
 
-module _ (rs : List Row) (out : List ℕ) (h : Header) (l : ℕ) where
-  pub room-decides : (v : Verdict) → v ≡ inOrder (roomTests out l 30) good → isGood v ≡ false → v ≡ packetVerdict rs out h l
+  -- the same of a verdict that was asked
+  module _ (v : Verdict) (e : v ≡ inOrder (roomTests out l n) good) (g : isGood v ≡ true) where
+    pub room-few : l ≤ 1024
+    room-few = roomy (ap isGood (sym e) ∙ g) .0
+
+    pub room-there : n + l ≤ length out
+    room-there = roomy (ap isGood (sym e) ∙ g) .1
+
+    pub end-fits : Fits w64 (27 + l)
+    end-fits = omega (arith, room-few)
+
+module _ (rs : List Row) (out : List ℕ) (h : Header) (l : ℕ) (w : Verdict) (e : w ≡ inOrder (roomTests out l 30) good) where
+  -- no room
+  pub room-decides : isGood w ≡ false → w ≡ packetVerdict rs out h l
   unfolding packetVerdict
-  room-decides v e b = e ∙ sym (stays (roomTests out l 30) _ (ap isGood (sym e) ∙ b))
+  room-decides b = e ∙ sym (stays (roomTests out l 30) _ (ap isGood (sym e) ∙ b))
 
-  module _ (g : isGood (inOrder (roomTests out l 30) good) ≡ true) where
-    on : inOrder (fieldTests h) (judgedUnder rs (h .command) (part out 27 (27 + l))) ≡ packetVerdict rs out h l
-    unfolding packetVerdict
-    on = sym (goes-on (roomTests out l 30) _ refl g)
+  -- room: the header's tests decide, then the unit
+  pub fields-decide : (v : Verdict) → isGood w ≡ true → v ≡ inOrder (fieldTests h) (judgedUnder rs (h .command) (part out 27 (27 + l)))
+      → v ≡ packetVerdict rs out h l
+  unfolding packetVerdict
+  fields-decide v g q = q ∙ sym (goes-on (roomTests out l 30) _ refl (ap isGood (sym e) ∙ g))
 
-    pub command-low : h .command < 1 → refusal COMMAND 0 ≡ packetVerdict rs out h l
-    unfolding inOrder
-    command-low k = simp (lt-leb 1 (h .command) k) at on
+-- the unit that was judged
+pub unit-judged : (rs : List Row) (out : List ℕ) (c l : ℕ) (u : List ℕ) (v : Verdict) → u ≡ part out 27 (27 + l) → v ≡ judgedUnder rs c u
+    → v ≡ judgedUnder rs c (part out 27 (27 + l))
+unit-judged rs out c l u v e q = q ∙ ap (judgedUnder rs c) e
 
-    pub command-high : 1 ≤ h .command → 6 < h .command → refusal COMMAND 0 ≡ packetVerdict rs out h l
-    unfolding inOrder
-    command-high c k = simp (le-leb 1 (h .command) c, lt-leb (h .command) 6 k) at on
-
-    pub bad-time : 1 ≤ h .command → h .command ≤ 6 → allowed (judged (h .label)) ≡ false → refusal TIME 0 ≡ packetVerdict rs out h l
-    unfolding inOrder
-    bad-time c k t = simp (le-leb 1 (h .command) c, le-leb (h .command) 6 k, t) at on
-
-    pub unit-decides : 1 ≤ h .command → h .command ≤ 6 → allowed (judged (h .label)) ≡ true → judgedUnder rs (h .command) (part out 27 (27 + l)) ≡ packetVerdict rs out h l
-    unfolding inOrder
-    unit-decides c k t = simp (le-leb 1 (h .command) c, le-leb (h .command) 6 k, t) at on
-
+module _ (rs : List Row) (out : List ℕ) (h : Header) (l : ℕ) where
   -- the output
   pub kept : isGood (packetVerdict rs out h l) ≡ false → out ≡ writtenPacket rs out h l
   unfolding writtenPacket
@@ -77,3 +70,21 @@ module _ (rs : List Row) (out : List ℕ) (h : Header) (l : ℕ) where
   packet-roomy g =
       let k = good-held (roomTests out l 30) (inOrder (fieldTests h) (judgedUnder rs (h .command) (part out 27 (27 + l)))) refl g .0 in
       (leb-true l 1024 (k .0), leb-true (30 + l) (length out) (k .1 .0))
+
+  -- the same of a verdict that was asked
+  module _ (v : Verdict) (e : v ≡ packetVerdict rs out h l) where
+    pub packet-kept : isGood v ≡ false → out ≡ writtenPacket rs out h l
+    packet-kept b = kept (ap isGood (sym e) ∙ b)
+
+    pub packet-sealed : (w : List ℕ) → isGood v ≡ true → w ≡ putAt out 0 (packetBytes h (part out 27 (27 + l))) → w ≡ writtenPacket rs out h l
+    packet-sealed w g q = q ∙ sealed (ap isGood (sym e) ∙ g)
+
+    pub packet-few : isGood v ≡ true → l ≤ 1024
+    packet-few g = packet-roomy (ap isGood (sym e) ∙ g) .0
+
+    pub packet-there : isGood v ≡ true → 30 + l ≤ length out
+    packet-there g = packet-roomy (ap isGood (sym e) ∙ g) .1
+
+pub ruleset judging = (in-order, room-decides, fields-decide, unit-judged, end-fits)
+
+pub ruleset writing = (flag-set, flag-clear, packet-kept, packet-sealed, packet-few, packet-there)

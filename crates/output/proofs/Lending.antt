@@ -20,9 +20,10 @@ use Rattle.unit.specs.Units.{rowOf}
 use Rattle.verdict.specs.declared.Verdict.{Verdict}
 use Rattle.verdict.specs.Orders.{inOrder, good, isGood}
 use Rattle.verdict.proofs.Order.{stays, goes-on}
+use Rattle.verdict.proofs.Walking.{flag-set, flag-clear}
 use Rattle.output.specs.Writing.{roomTests}
 use Rattle.output.specs.Objects.{objectVerdict, writtenObject, writtenOutputText}
-use Rattle.output.proofs.Judging.{roomy}
+use Rattle.output.proofs.Judging.{roomy, room-there, end-fits}
 
 home : (o : List ℕ) (at n : ℕ) (v : List ℕ) → at + n ≤ length o → length v ≡ n → take at o ++ (v ++ drop n (drop at o)) ≡ putAt o at v
 home o at n v fits e =
@@ -50,16 +51,22 @@ length-text out t = by-test (isGood (textVerdict out t))
     by-test true = length-put out 0 (textUnit t)
     by-test false = refl
 
-module _ (es : List Entry) (o : List ℕ) (l k : ℕ) (f : Fields) (d : List ℕ) where
-  pub object-refused : (v : Verdict) → v ≡ inOrder (roomTests o l 27) good → isGood v ≡ false → (v ≡ objectVerdict (rowsOf es) o l k f d) × (o ≡ writtenObject es o l k f d)
-  unfolding objectVerdict writtenObject
-  object-refused v e b =
-      let r = ap isGood (sym e) ∙ b in
-      (e ∙ sym (stays (roomTests o l 27) (writeVerdict (rowsOf es) (part o 27 (27 + l)) k f d) r), simp r)
+-- what `write_object` answers and leaves, by the verdict on the room
+module _ (es : List Entry) (o : List ℕ) (l k : ℕ) (f : Fields) (d : List ℕ) (w : Verdict) (e : w ≡ inOrder (roomTests o l 27) good) where
+  pub object-refused : isGood w ≡ false → w ≡ objectVerdict (rowsOf es) o l k f d
+  unfolding objectVerdict
+  object-refused b = e ∙ sym (stays (roomTests o l 27) (writeVerdict (rowsOf es) (part o 27 (27 + l)) k f d) (ap isGood (sym e) ∙ b))
 
-  module _ (g : isGood (inOrder (roomTests o l 27) good) ≡ true) where
+  pub object-kept : isGood w ≡ false → o ≡ writtenObject es o l k f d
+  unfolding writtenObject
+  object-kept b = simp (ap isGood (sym e) ∙ b)
+
+  module _ (g : isGood w ≡ true) where
+    passed : isGood (inOrder (roomTests o l 27) good) ≡ true
+    passed = ap isGood (sym e) ∙ g
+
     fits : 27 + l ≤ length o
-    fits = roomy o l 27 g .1
+    fits = roomy o l 27 passed .1
 
     lent : take (27 + l - 27) (drop 27 o) ≡ part o 27 (27 + l)
     lent = sym (part-is o 27 (27 + l) (omega arith) fits)
@@ -69,17 +76,20 @@ module _ (es : List Entry) (o : List ℕ) (l k : ℕ) (f : Fields) (d : List ℕ
 
     pub object-verdict : (v : Verdict) → v ≡ writeVerdict (rowsOf es) (take (27 + l - 27) (drop 27 o)) k f d → v ≡ objectVerdict (rowsOf es) o l k f d
     unfolding objectVerdict
-    object-verdict v e =
-        e ∙ ap (λ (u : List ℕ). writeVerdict (rowsOf es) u k f d) lent ∙ sym (goes-on (roomTests o l 27) (writeVerdict (rowsOf es) (part o 27 (27 + l)) k f d) refl g)
+    object-verdict v q =
+        q
+        ∙ ap (λ (u : List ℕ). writeVerdict (rowsOf es) u k f d) lent
+        ∙ sym (goes-on (roomTests o l 27) (writeVerdict (rowsOf es) (part o 27 (27 + l)) k f d) refl passed)
 
-    pub object-home : (w : List ℕ) → w ≡ writtenUnit es (take (27 + l - 27) (drop 27 o)) k f d → take 27 o ++ (w ++ drop (27 + l - 27) (drop 27 o)) ≡ writtenObject es o l k f d
+    pub object-home : (x : List ℕ) → x ≡ writtenUnit es (take (27 + l - 27) (drop 27 o)) k f d
+        → take 27 o ++ (x ++ drop (27 + l - 27) (drop 27 o)) ≡ writtenObject es o l k f d
     unfolding writtenObject
-    object-home w e =
+    object-home x q =
         let u : List ℕ = part o 27 (27 + l) in
-        let there : w ≡ writtenUnit es u k f d = e ∙ ap (λ (x : List ℕ). writtenUnit es x k f d) lent in
-        home o 27 (27 + l - 27) w (omega (arith, fits)) (ap length there ∙ length-unit es u k f d ∙ long)
+        let there : x ≡ writtenUnit es u k f d = q ∙ ap (λ (y : List ℕ). writtenUnit es y k f d) lent in
+        home o 27 (27 + l - 27) x (omega (arith, fits)) (ap length there ∙ length-unit es u k f d ∙ long)
         ∙ ap (putAt o 27) there
-        ∙ simp g
+        ∙ simp passed
 
 module _ (o t : List ℕ) where
   -- an output that does not reach byte 28 lends nothing
@@ -119,3 +129,7 @@ module _ (o t : List ℕ) where
       ap (λ (x : List ℕ). take 27 o ++ (w ++ x)) (drop-of-length-le (drop 27 o) past)
       ∙ ap (λ (x : List ℕ). take 27 o ++ x) (append-nil w)
       ∙ ap (λ (x : List ℕ). take 27 o ++ x) (e ∙ ap (λ (x : List ℕ). writtenText x t) (rest-is o 27))
+
+pub ruleset object-lent = (flag-set, flag-clear, end-fits, room-there, object-refused, object-kept, object-verdict, object-home)
+
+pub ruleset text-lent = (short-verdict, short-home, text-verdict, text-home)

@@ -1,27 +1,18 @@
--- `output::judge_room` meets its contract: each `return` by the law of its answer. Assumes nothing.
-use mathlib.Core.Path.{_∙_}
-use Rattle.output.proofs.Judging.{length-over, no-room, room}
+-- `output::judge_room` meets its contract: `search` walks the order of tests to each `return`. Assumes nothing.
 use borrow.Author.Needs.{needs}
+use Rattle.octets.proofs.Asked.{unasked}
+use Rattle.verdict.proofs.Walking.{in-order}
 use Rattle.output.proofs.judge_room.Statement.{statement}
 use Rattle.output.proofs.judge_room.Tie as tie
-
-returns : tie.Need-returns
-returns c = c .refused .ensures ∙ length-over (c .before .before .before .args .out .now) (c .before .before .before .args .length) (c .before .before .before .args .beside) (c .before .if1 .taken)
-
-returns-2 : tie.Need-returns-2
-returns-2 c = c .refused2 .ensures ∙ no-room (c .before .before .before .before .args .out .now) (c .before .before .before .before .args .length) (c .before .before .before .before .args .beside) (c .before .before .if1 .left) (c .before .if2 .taken)
-
-returns-3 : tie.Need-returns-3
-returns-3 c = c .good2 .ensures ∙ room (c .before .before .before .before .args .out .now) (c .before .before .before .before .args .length) (c .before .before .before .before .args .beside) (c .before .before .if1 .left) (c .before .if2 .left)
 
 pub judge-room-spec : {M : Type 1} → statement M
 judge-room-spec =
     tie.close
     (tie.spec
-    (λ c κs. search needs)
-    returns
+    unasked
+    (λ c. search in-order)  -- 1024 < length
     (λ c. search needs)
-    (λ c κs. search needs)
-    returns-2
-    (λ c κs. search needs)
-    returns-3)
+    unasked
+    (λ c. search in-order)  -- out.len() < beside + length
+    unasked
+    (λ c. search in-order))
