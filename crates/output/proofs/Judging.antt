@@ -5,6 +5,7 @@ use mathlib.Core.Bool.{true, false}
 use mathlib.Core.List.{List}
 use mathlib.Core.Path.{_≡_, refl, sym, ap, _∙_}
 use borrow.Author.Tests.{leb-true}
+use lib.Dec.{leb}
 use lib.ListN.{length}
 use mir.Syntax.{w64}
 use mir.Val.{Fits}
@@ -34,8 +35,8 @@ module _ (out : List ℕ) (l n : ℕ) where
     pub room-there : n + l ≤ length out
     room-there = roomy (ap isGood (sym e) ∙ g) .1
 
-    pub end-fits : Fits w64 (27 + l)
-    end-fits = omega (arith, room-few)
+    pub end-fits : (m : ℕ) → leb m 27 ≡ true → Fits w64 (m + l)
+    end-fits m t = omega (arith, room-few, leb-true m 27 t)
 
 module _ (rs : List Row) (out : List ℕ) (h : Header) (l : ℕ) (w : Verdict) (e : w ≡ inOrder (roomTests out l 30) good) where
   -- no room
