@@ -1,5 +1,9 @@
 pub mod Determined
 pub mod Lent
 pub mod Checked
-pub mod Demands
+pub mod Demand1
+pub mod Demand2
+pub mod Demand2Exchanges
+pub mod Demand3
+pub mod DeviceTable
 pub mod Exported
