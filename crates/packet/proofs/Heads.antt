@@ -7,7 +7,6 @@ use mathlib.Core.Path.{_≡_, refl, sym, ap, _∙_}
 use lib.Dec.{lit<}
 use lib.ListN.{length, getD, take, drop, replicate, length-replicate}
 use lib.Seq.{getD-take, getD-drop}
-use Rattle.label.specs.declared.Label.{Label}
 use Rattle.label.specs.Times.{labelOf}
 use Rattle.label.proofs.Laws.{label-same}
 use Rattle.octets.specs.Numbers.{lowFirst}
@@ -46,21 +45,8 @@ header-same p q h =
         ∷ h (suc (suc (suc (suc (suc at))))) (omega arith) i
         ∷ []
 
-header-alone : (p : List ℕ) (n : ℕ) → n ≡ 27 → headerOf (take n (drop 0 p)) ≡ headerOf p
+pub header-alone : (p : List ℕ) (n : ℕ) → n ≡ 27 → headerOf (take n (drop 0 p)) ≡ headerOf p
 header-alone p n e = header-same (take n p) p (λ i l. getD-take n p i 0 (omega arith))
-
--- fields that were read from the first 27 bytes of p
-pub header-front : (p : List ℕ) {s v k : ℕ} {l : Label} {a b : List ℕ} →
-    let q = take 27 (drop 0 p) in
-    s ≡ lowFirst (take 2 (drop 2 q))
-    → v ≡ getD q 5 0
-    → l ≡ labelOf (drop 6 q)
-    → a ≡ oneByOne q 12 6
-    → b ≡ oneByOne q 18 6
-    → k ≡ getD q 26 0
-    → _≡_ {A = Header} (record { serial = s; version = v; label = l; source = a; destination = b; command = k }) (headerOf p)
-header-front p e f g h j m =
-    (λ i. record { serial = e i; version = f i; label = g i; source = h i; destination = j i; command = m i }) ∙ header-alone p 27 refl
 
 zeros : (n i : ℕ) → getD {A = ℕ} (replicate n 0) i 0 ≡ 0
 zeros zero zero = refl

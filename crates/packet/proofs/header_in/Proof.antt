@@ -1,16 +1,25 @@
 -- `packet::header_in` meets its contract field by field. Assumes nothing.
+use mathlib.Core.Path.{_≡_, refl, _∙_}
 use borrow.Author.Needs.{needs}
 use Rattle.octets.proofs.Asked.{unasked}
-use Rattle.packet.proofs.Heads.{header-front}
+use Rattle.packet.specs.declared.Header.{Header}
+use Rattle.packet.proofs.Heads.{header-alone}
 use Rattle.packet.proofs.header_in.Statement.{statement}
 use Rattle.packet.proofs.header_in.Tie as tie
 
 returns : tie.Need-returns
 returns c =
-    let at-label = c .before .before .before in
-    let at-serial = at-label .before .before in
-    header-front (at-serial .before .before .before .args .p .now) (at-serial .two-at .ensures) (at-label .before .byte-at .ensures)
-    (at-label .read-at .ensures) (c .before .before .six-at .ensures) (c .before .six-at2 .ensures) (c .byte-at2 .ensures)
+    let fields : _≡_ {A = Header} _ _ =
+    λ i.
+    record {
+      serial = c .before .before .before .before .before .two-at .ensures i;
+      version = c .before .before .before .before .byte-at .ensures i;
+      label = c .before .before .before .read-at .ensures i;
+      source = c .before .before .six-at .ensures i;
+      destination = c .before .six-at2 .ensures i;
+      command = c .byte-at2 .ensures i;
+    } in
+    fields ∙ header-alone (c .before .before .before .before .before .before .before .before .args .p .now) 27 refl
 
 pub header-in-spec : {M : Type 1} → statement M
 header-in-spec =
