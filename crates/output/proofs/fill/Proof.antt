@@ -5,6 +5,9 @@ use Rattle.output.proofs.Filling.{filled}
 use Rattle.output.proofs.fill.Statement.{statement}
 use Rattle.output.proofs.fill.Tie as tie
 
+returns : tie.Need-returns
+returns c = search (filled, needs)
+
 pub fill-spec : {M : Type 1} → statement M
 fill-spec =
     tie.close
@@ -21,4 +24,4 @@ fill-spec =
     (λ c. search needs)
     unasked
     (λ c. search needs)
-    (λ c. search (filled, needs)))
+    returns)

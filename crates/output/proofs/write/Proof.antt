@@ -12,7 +12,7 @@ write-spec =
     unasked
     unasked
     (λ c. search needs)
-    (λ c. search writing)  -- !verdict.is_good()
-    (λ c κs. search writing)
+    (λ c. (search writing, search writing))  -- !verdict.is_good()
+    (λ c κs. (search writing, search writing))
     (λ c. search needs)
-    (λ c. search writing))
+    (λ c. (search writing, search writing)))

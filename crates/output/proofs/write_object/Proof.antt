@@ -12,11 +12,11 @@ write-object-spec =
     (λ c κs. search needs)
     unasked
     (λ c. search needs)
-    (λ c. search object-lent)  -- !v.is_good()
+    (λ c. (search object-lent, search object-lent))  -- !v.is_good()
     (λ c. search object-lent)
     (λ c. search needs)
     (λ c. search needs)
     (λ c. search object-lent)
     unasked
     (λ c. search needs)
-    (λ c. search object-lent))
+    (λ c. (search object-lent, search object-lent)))

@@ -5,6 +5,12 @@ use Rattle.output.proofs.Lending.{text-lent}
 use Rattle.output.proofs.write_text.Statement.{statement}
 use Rattle.output.proofs.write_text.Tie as tie
 
+returns : tie.Need-returns
+returns c = (search text-lent, search text-lent)
+
+returns-2 : tie.Need-returns-2
+returns-2 c = (search text-lent, search text-lent)
+
 pub write-text-spec : {M : Type 1} → statement M
 write-text-spec =
     tie.close
@@ -14,10 +20,10 @@ write-text-spec =
     (λ c. search needs)
     unasked
     (λ c. search needs)
-    (λ c. search text-lent)  -- n < 27
+    returns  -- n < 27
     (λ c. search needs)
     (λ c. search needs)
     (λ c. search needs)
     unasked
     (λ c. search needs)
-    (λ c. search text-lent))
+    returns-2)
