@@ -3,13 +3,14 @@
 use Prim.Native.Nat.{ℕ}
 use mathlib.Core.Bool.{Bool, true, false, _&&_, cond}
 use mathlib.Core.List.{List, [], _∷_}
-use lib.Dec.{leb}
+use lib.Dec.{eqb, leb}
 use lib.ListN.{getD}
+use Rattle.verdict.specs.Refusals.{TIME}
 use Rattle.label.specs.declared.Label.{Label}
 use Rattle.label.specs.declared.Judgement.{Judgement}
 use Rattle.label.specs.declared.Judgement.the-variants.{Time, Bad}
 
--- "second, minute, hour, day, month, year", in this order
+-- second, minute, hour, day, month, year, in this order (001, 8.2.2)
 abbrev pub labelBytes : Label → List ℕ
 labelBytes l = l .second ∷ l .minute ∷ l .hour ∷ l .day ∷ l .month ∷ l .year ∷ []
 
@@ -32,7 +33,11 @@ inRanges (r ∷ rs) (b ∷ bytes) = leb (r .0) b && leb b (r .1) && inRanges rs 
 unfoldable pub judged : Label → Judgement
 judged l = cond (inRanges ranges (labelBytes l)) Time Bad
 
+-- "If an answer is an enum, a definition gives this paper's number": a time is good, "a label out of range" is TIME
+abbrev pub numberOf : Judgement → ℕ
+numberOf Time = 0
+numberOf Bad = TIME
+
 -- which judgements are no refusal
 abbrev pub allowed : Judgement → Bool
-allowed Time = true
-allowed Bad = false
+allowed j = eqb (numberOf j) 0

@@ -46,7 +46,7 @@ fn print_name(number: u8) {
     print(octets::part_of(&letters, 0, name.length));
 }
 
-// "PACKET length serial command", and the judge's OK or refusal name.
+// PACKET, "also length, serial, command, and the judge's OK or refusal name".
 fn print_packet(p: &[u8]) {
     let header = packet::header_of(p);
     let judged = packet::judge(p);

@@ -8,12 +8,12 @@ use Rattle.octets.specs.Numbers.{bytesOf}
 use Rattle.octets.specs.Sums.{total}
 use Rattle.packet.specs.declared.Header.{Header}
 
--- the 27 bytes before the unit: "64, 64; serial; main version, always 1; user version; label; source; destination; L; command"
+-- the 27 bytes before the unit: 64 and 64, serial, "main version, always 1", user version, label, source, destination, L, command
 unfoldable pub headBytes : Header → ℕ → List ℕ
 headBytes h l =
     64 ∷ 64 ∷ (bytesOf 2 (h .serial) ++ (1 ∷ h .version ∷ (labelBytes (h .label) ++ (h .source ++ (h .destination ++ (bytesOf 2 l ++ (h .command ∷ [])))))))
 
--- "28+L: sum of bytes 3 to 27+L, modulo 256; 29+L, 30+L: 35, 35"
+-- byte 28+L: "sum of bytes 3 to 27+L, modulo 256"; bytes 29+L and 30+L: "35, 35"
 abbrev pub tailBytes : List ℕ → List ℕ
 tailBytes sealed = total sealed % 256 ∷ 35 ∷ 35 ∷ []
 

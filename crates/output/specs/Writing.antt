@@ -15,7 +15,7 @@ use Rattle.verdict.specs.declared.Verdict.{Verdict}
 use Rattle.verdict.specs.Orders.{Test, _or-else_, inOrder, isGood}
 use Rattle.verdict.specs.Refusals.{LENGTH, ROOM, COMMAND, TIME}
 
--- "LENGTH: L over 1,024", "ROOM: .. output shorter than what is written"
+-- LENGTH for "L over 1,024", ROOM for "output shorter than what is written"
 abbrev pub roomTests : List ℕ → ℕ → ℕ → List Test
 roomTests out l n = (leb l 1024 or-else LENGTH) ∷ (leb (n + l) (length out) or-else ROOM) ∷ []
 

@@ -14,11 +14,11 @@ use Rattle.verdict.specs.declared.Part.{Part}
 use Rattle.verdict.specs.Orders.{Test, _or-else_, inOrder, partBy}
 use Rattle.verdict.specs.Refusals.{VERSION, COMMAND, TIME}
 
--- "27: command"
+-- byte 27: "command"
 abbrev pub commandOf : List ℕ → ℕ
 commandOf p = getD p 26 0
 
--- "28 .. 27+L: application data unit"
+-- bytes 28 to 27+L: "application data unit"
 abbrev pub unitOf : List ℕ → List ℕ
 unitOf p = part p 27 (27 + unitLength p)
 

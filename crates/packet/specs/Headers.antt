@@ -14,7 +14,7 @@ use Rattle.packet.specs.declared.Header.{Header}
 use Rattle.packet.specs.declared.Opened.{Opened}
 use Rattle.packet.specs.Frames.{judgedPacket}
 
--- "3-4 serial; 6 user version; 7-12 time label; 13-18, 19-24 source, destination; 27 command"
+-- bytes 3-4 serial, 6 user version, 7-12 time label, 13-18 and 19-24 source and destination, 27 command
 abbrev pub headerOf : List ℕ → Header
 headerOf p =
     record {

@@ -33,7 +33,7 @@ fresh M = record { hold = padTo (room M) []; held = 0; skipped = 0 }
 abbrev pub heldBytes : State → List ℕ
 heldBytes st = take (st .held) (st .hold)
 
--- STATE: "a receiver state breaks its rules here"
+-- STATE for "a receiver or exchange state breaks its rules here"
 unfoldable pub sound : ℕ → State → Bool
 sound M st = leb (st .held) (room M) && leb (st .skipped) 65534 && allZero (drop (st .held) (st .hold))
 

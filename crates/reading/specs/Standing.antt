@@ -21,7 +21,7 @@ judgedFrame l xs =
     (cond (summed l xs) (Hit (Packet (packetLength l)) (packetLength l) (packetLength l)) (Hit Sum (packetLength l) 1))
     (Hit End (packetLength l) 1)
 
--- "64, 64 and 26 bytes are there: L over 1,024 gives LENGTH, and p moves one byte; 30+L bytes are there: .."
+-- "64, 64 and 26 bytes are there: L over 1,024 gives LENGTH, and p moves one byte", then "30+L bytes are there: .."
 unfoldable pub started : ℕ → List ℕ → Standing
 started M xs =
     whenThere 26 xs

@@ -40,7 +40,7 @@ fn print_number(n: usize) {
     io::print_decimal(STDOUT_FILENO, n as u64);
 }
 
-// "OK systems parts bytes", or the refusal's name and place.
+// OK with systems, parts and bytes, or the refusal's name and place.
 fn print_judgement(table: &[u8]) {
     let judged = devices::judge(table);
     let v = judged.verdict;

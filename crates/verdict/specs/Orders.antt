@@ -9,7 +9,7 @@ use Rattle.octets.specs.Parts.{part, partPlace}
 use Rattle.verdict.specs.declared.Verdict.{Verdict}
 use Rattle.verdict.specs.declared.Part.{Part}
 
--- "A refusal returns its number and place (0 where none is refusing)"
+-- "A refusal returns its number and place (0 where none is named)"
 abbrev pub refusal : ℕ → ℕ → Verdict
 refusal n p = record { number = n; place = p }
 
