@@ -5,7 +5,6 @@ use mathlib.Core.List.{List, [], _++_}
 use mathlib.Core.Logic.{_⊎_, ⊎-elim}
 use mathlib.Core.Bool.{Bool, true, false, not}
 use mathlib.Core.Path.{_≡_, sym, ap, subst, _∙_}
-use borrow.Author.Needs.{needs}
 use lib.ListN.{length, take, drop, length-append}
 use lib.Seq.{length-take-le}
 use Rattle.reading.specs.declared.Step.{Step}
@@ -147,5 +146,3 @@ module _ {M : ℕ} {hold : List ℕ} {held skipped : ℕ} {piece out : List ℕ}
                 ∙ ap (λ (a : Answer). a .out) (sym is),
           ),
         )
-
-pub ruleset serving = (needs, hold-is, packet-fits, taken-there, left-fits)

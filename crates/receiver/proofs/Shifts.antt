@@ -2,8 +2,9 @@
 use Prim.Native.Nat.{ℕ, suc, _+_, _-_, _≤_, _<_}
 use native.Mathlib.Numerals.{add-one}
 use native.Mathlib.Omega.{arith}
-use mathlib.Core.List.{List, _∷_, _++_}
+use mathlib.Core.List.{List, _++_}
 use mathlib.Core.Path.{_≡_, refl, sym, ap, _∙_}
+use borrow.Author.Needs.{needs}
 use lib.ListN.{length, getD, set, take, drop, length-drop, length-set, take-append-drop}
 use lib.Seq.{drop-cons, take-suc, set-at, getD-append-add, getD-drop, length-take-le, append-snoc}
 use Rattle.receiver.specs.Shifts.{shifted}
@@ -58,4 +59,4 @@ module _ (row : List ℕ) (by count : ℕ) where
   pub moved-one : (now : List ℕ) → by ≡ 1 → now ≡ shifted row 1 count → now ≡ shifted row by count
   moved-one now e is = is ∙ ap (λ (b : ℕ). shifted row b count) (sym e)
 
-pub ruleset moving = (moving-none, moving-more, moving-end, moved-none, moved-one)
+pub ruleset moving = (needs, moving-none, moving-more, moving-end, moved-none, moved-one)

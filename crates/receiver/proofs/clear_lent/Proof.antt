@@ -1,6 +1,7 @@
 -- `receiver::clear_lent` meets its contract: the whole row is wiped. Assumes nothing.
 use Prim.Native.Nat.{ℕ}
 use borrow.Author.Needs.{needs}
+use Rattle.octets.proofs.Asked.{unasked}
 use mathlib.Core.Path.{_≡_, ap, _∙_}
 use lib.ListN.{length, replicate}
 use denote.Ref.{now}
@@ -16,4 +17,4 @@ returns c =
     c .wipe .ensures ∙ ap (λ (n : ℕ). replicate n 0) long
 
 pub clear-lent-spec : {M : Type 1} → statement M
-clear-lent-spec = tie.close (tie.spec (λ c κs. search needs) returns)
+clear-lent-spec = tie.close (tie.spec unasked returns)

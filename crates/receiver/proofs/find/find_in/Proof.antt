@@ -9,7 +9,8 @@ use Rattle.receiver.proofs.find.find_in.Statement.{statement}
 use Rattle.receiver.proofs.find.find_in.Tie as tie
 
 -- the run and what follows it are the whole piece
-whole : (c : tie.After-noise) → let b = c .before .before .args .b .now in let n = c .noise .result in n + length (take (length b - n) (drop n b)) ≡ length b
+whole : (c : tie.After-noise)
+    → let b = c .before .before .args .b .now in let n = c .noise .result in n + length (take (length b - n) (drop n b)) ≡ length b
 whole c = run-rest _ _ _ (c .noise .ensures)
 
 pub find-in-spec : {M : Type 1} → statement M

@@ -1,6 +1,5 @@
 -- `receiver::moves::shift` meets its contract. The loop's invariant: the first i bytes are moved. Assumes nothing.
 use Prim.Native.Nat.{_-_}
-use borrow.Author.Needs.{needs}
 use Rattle.receiver.proofs.Shifts.{Moving, moving}
 use Rattle.receiver.proofs.moves.shift.Statement.{statement}
 use Rattle.receiver.proofs.moves.shift.Tie as tie
@@ -17,16 +16,16 @@ shift-spec =
     (tie.spec
     Inv-loop
     μ-loop
-    (λ c. search (moving, needs))
-    (λ c κs. search needs)
-    (λ c. search (moving, needs))
-    (λ c. search (moving, needs))
-    (λ c. search (moving, needs))
-    (λ c. search (moving, needs))
-    (λ c. search (moving, needs))
-    (λ c. search (moving, needs))
-    (λ c. search (moving, needs))
-    (λ c. search (moving, needs))
-    (λ c. search (moving, needs))
-    (λ c. search (moving, needs))
-    (λ c. search (moving, needs)))
+    (λ c. search moving)  -- by == 0
+    (λ c κs. search moving)
+    (λ c. search moving)
+    (λ c. search moving)  -- by == 1
+    (λ c. search moving)
+    (λ c. search moving)
+    (λ c. search moving)
+    (λ c. search moving)
+    (λ c. search moving)
+    (λ c. search moving)
+    (λ c. search moving)
+    (λ c. search moving)
+    (λ c. search moving))

@@ -1,6 +1,5 @@
 -- `receiver::moves::shift_one` meets its contract. The loop's invariant: the first i bytes are moved. Assumes nothing.
 use Prim.Native.Nat.{_-_}
-use borrow.Author.Needs.{needs}
 use Rattle.receiver.proofs.Shifts.{Moving, moving}
 use Rattle.receiver.proofs.moves.shift_one.Statement.{statement}
 use Rattle.receiver.proofs.moves.shift_one.Tie as tie
@@ -17,12 +16,12 @@ shift-one-spec =
     (tie.spec
     Inv-loop
     μ-loop
-    (λ c. search (moving, needs))
-    (λ c. search (moving, needs))
-    (λ c. search (moving, needs))
-    (λ c. search (moving, needs))
-    (λ c. search (moving, needs))
-    (λ c. search (moving, needs))
-    (λ c. search (moving, needs))
-    (λ c. search (moving, needs))
-    (λ c. search (moving, needs)))
+    (λ c. search moving)
+    (λ c. search moving)
+    (λ c. search moving)
+    (λ c. search moving)
+    (λ c. search moving)
+    (λ c. search moving)
+    (λ c. search moving)
+    (λ c. search moving)
+    (λ c. search moving))

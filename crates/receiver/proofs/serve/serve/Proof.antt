@@ -2,7 +2,7 @@
 use native.Mathlib.Omega.{arith}
 use borrow.Author.Needs.{needs}
 use Rattle.octets.proofs.Asked.{unasked}
-use Rattle.receiver.proofs.Serves.{Keeping, Serving, keeping, state-refused, room-refused, taken-there, answer, serving}
+use Rattle.receiver.proofs.Serves.{Keeping, Serving, keeping, state-refused, room-refused, taken-there, answer, packet-fits, hold-is, left-fits}
 use Rattle.receiver.proofs.serve.serve.Statement.{statement}
 use Rattle.receiver.proofs.serve.serve.Tie as tie
 
@@ -16,6 +16,12 @@ so : (c : tie.After-find)
     → let a = c .before .before .before .before .before .before .before .before .before .before .args in
     Serving (a .max) (a .hold .now) (a .held) (a .skipped) (a .piece .now) (a .out .now) (c .find .result)
 so c = let k = kept (c .before .before .before .before) in search
+
+settle-requires : tie.Need-settle-requires
+settle-requires c κs =
+    let less = c .before .before in
+    let v = so (less .before .before .before .before .before .before .before .before) in
+    (v .state .inside, (hold-is v, left-fits v (less .less .ensures)))
 
 returns-3 : tie.Need-returns-3
 returns-3 c =
@@ -39,18 +45,18 @@ serve-spec =
     (λ c. room-refused _ _ (c .refused2 .ensures) (kept (c .before .before)) (c .before .if2 .taken))  -- out.len() < 30 + max
     (λ c. search needs)
     (λ c. search needs)
-    (λ c. let k = kept (c .before .before) in omega arith)
+    (λ c. omega (arith, kept (c .before .before) .inside))
     (λ c κs. let k = kept (c .before .before .before) in search needs)
     unasked
     (λ c. search needs)
     (λ c. search needs)
-    (λ c. let v = so (c .before .before .before) in omega arith)
-    (λ c κs. let v = so (c .before .before .before .before) in search serving)
+    (λ c. omega (arith, so (c .before .before .before) .state .inside))
+    (λ c κs. packet-fits (so (c .before .before .before .before)) _ (c .before .before .before .told .ensures))
     unasked
     (λ c. search needs)
     (λ c. search needs)
-    (λ c. let v = so (c .before .before .before .before .before .before .before .before .before) in omega (arith, taken-there v))
-    (λ c κs. let v = so (c .before .before .before .before .before .before .before .before .before .before) in search serving)
+    (λ c. omega (arith, taken-there (so (c .before .before .before .before .before .before .before .before .before)), c .before .less .ensures))
+    settle-requires
     (λ c. search needs)
     (λ c. search needs)
     returns-3)

@@ -25,10 +25,10 @@ settle-spec =
     unasked
     unasked
     unasked
-    (λ c. let s = so c in omega (arith, new-is s))
+    (λ c. omega (arith, new-is (so c), so c .fits))
     (λ c. search needs)
-    (λ c. let s = so (c .before) in omega (arith, settled-size s))
-    (λ c. let s = so (c .before) in omega (arith, settled-size s))
+    (λ c. omega (arith, settled-size (so (c .before)), so (c .before) .few))
+    (λ c. omega (arith, settled-size (so (c .before)), so (c .before) .few))
     unasked
     (λ c. let s = so (c .before .before .before .before .before) in search settles)
     (λ c. let s = so (c .before .before .before .before .before) in search settles)  -- now < held
