@@ -5,6 +5,7 @@ use Rattle.output.proofs.Filling.{filled}
 use Rattle.output.proofs.fill.Statement.{statement}
 use Rattle.output.proofs.fill.Tie as tie
 
+-- an answer of its own, so that an edit that makes it false is refused quickly
 returns : tie.Need-returns
 returns c = search (filled, needs)
 

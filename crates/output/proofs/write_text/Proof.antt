@@ -5,6 +5,7 @@ use Rattle.output.proofs.Lending.{text-lent}
 use Rattle.output.proofs.write_text.Statement.{statement}
 use Rattle.output.proofs.write_text.Tie as tie
 
+-- answers of their own, so that an edit that makes one false is refused quickly
 returns : tie.Need-returns
 returns c = (search text-lent, search text-lent)
 
