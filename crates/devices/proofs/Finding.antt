@@ -8,12 +8,11 @@ use mathlib.Core.Path.{_≡_, refl, sym, ap, subst, _∙_}
 use borrow.Author.Tests.{ltb-true}
 use lib.Dec.{ltb}
 use lib.ListN.{length}
-use Rattle.octets.specs.Parts.{part, partPlace}
 use Rattle.octets.specs.Searches.{firstRefused}
 use Rattle.octets.proofs.Flags.{on, off}
 use Rattle.verdict.specs.declared.Verdict.{Verdict}
 use Rattle.verdict.specs.declared.Part.{Part}
-use Rattle.verdict.specs.Orders.{inOrder, refusal, good, isGood, refusing, noPart, partBy, partIn, placeIn}
+use Rattle.verdict.specs.Orders.{inOrder, refusal, good, isGood, refusing, noPart, partBy}
 use Rattle.verdict.specs.Refusals.{UNLISTED}
 use Rattle.verdict.proofs.Order.{passed, failed, good-is, joined-stays, joined-on, refusing-append}
 use Rattle.devices.specs.declared.Section.{Section}
@@ -174,11 +173,3 @@ found-there a b t x j from m at p l stands u v w =
     ∙ place-listed a b t x (k .passes) (l .listed)
 
 pub ruleset finding = (found-refused, systems-end, judged-good, unlisted, listed-there, found-there)
-
--- the description as that part of the table, and where it stands in memory, from the place p that was found
-module _ (t : List ℕ) (a b : Section) (x : List ℕ) (p : Part) (e : p ≡ foundPlace a b t x) where
-  pub part-there : (d : List ℕ) → d ≡ part t (p .from) (p .to) → d ≡ partIn t (foundPlace a b t x)
-  part-there d h = h ∙ ap (partIn t) e
-
-  pub place-there : (at d : ℕ × ℕ) → d ≡ partPlace at t (p .from) (p .to) → d ≡ placeIn at t (foundPlace a b t x)
-  place-there at d h = h ∙ ap (placeIn at t) e

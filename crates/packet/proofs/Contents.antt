@@ -12,7 +12,7 @@ use Rattle.label.specs.Times.{labelOf, judged, allowed}
 use Rattle.octets.specs.Parts.{part}
 use Rattle.octets.proofs.Flags.{on, off}
 use Rattle.unit.specs.Units.{judgedUnder}
-use Rattle.unit.proofs.Readings.{as-read}
+use Rattle.verdict.proofs.Readings.{as-read}
 use Rattle.verdict.specs.declared.Verdict.{Verdict}
 use Rattle.verdict.specs.Orders.{inOrder, good, isGood}
 use Rattle.verdict.proofs.Order.{stays, goes-on}

@@ -9,7 +9,7 @@ use lib.Dec.{ltb, leb, eqb}
 use Rattle.place.specs.declared.Place.{Place}
 use Rattle.place.specs.declared.Reply.{Reply}
 use Rattle.place.specs.declared.Reply.the-variants.{Confirm, Answer, Deny, BadAnswer}
-use Rattle.place.specs.Rules.{REQUEST, SEND, free, isOpen, isZero, holds, keeps}
+use Rattle.place.specs.Rules.{REQUEST, free, isOpen, isZero, holds, keeps}
 use Rattle.place.specs.Steps.{NOTHING, RESENT, FAILED, counted, becomes, denied, ticked, awaits, fits, replied}
 
 -- a place that holds a serial is open, and the serial is its own

@@ -6,7 +6,6 @@ use mathlib.Core.List.{List}
 use mathlib.Core.Path.{_≡_, refl, sym, ap, subst⁻¹, _∙_}
 use lib.ListN.{length, set, replicate, length-set}
 use Rattle.octets.specs.Searches.{firstFit, anyFits}
-use Rattle.octets.proofs.Flags.{on, off}
 use Rattle.octets.proofs.Searches.{first-here, first-on, first-end, any-on}
 use Rattle.place.specs.declared.Place.{Place}
 use Rattle.place.specs.Rules.{isOpen}

@@ -1,4 +1,3 @@
-pub mod Readings
 pub mod Walks
 pub mod Shapes
 pub mod Times

@@ -1,6 +1,6 @@
 -- `trawnosz_answer_to` meets its contract: by the reply and its command. Assumes nothing.
 use Prim.Native.Nat.{ℕ}
-use mathlib.Core.Path.{_≡_, ap, _∙_}
+use mathlib.Core.Path.{ap, _∙_}
 use Rattle.octets.proofs.Asked.{unasked}
 use Rattle.trawnosz.specs.Calls.{answerTo}
 use borrow.Author.Needs.{needs}

@@ -1,5 +1,5 @@
 -- `trawnosz_receive` meets its contract: by the call and what its event tells. Assumes nothing.
-use mathlib.Core.Path.{_≡_, ap, _∙_}
+use mathlib.Core.Path.{ap, _∙_}
 use Rattle.octets.proofs.Asked.{unasked}
 use Rattle.reading.specs.declared.Told.{Told}
 use Rattle.trawnosz.specs.Calls.{servedTo}
