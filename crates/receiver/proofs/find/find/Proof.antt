@@ -14,6 +14,7 @@ whole : (c : tie.After-noise)
     → let a = c .before .before .before .before .args .a .now in let n = c .noise .result in n + length (take (length a - n) (drop n a)) ≡ length a
 whole c = run-rest _ _ _ (c .noise .ensures)
 
+-- the count is not full where the last held byte is skipped
 low : (c : tie.Then3) → c .before .before .before .before .before .before .before .args .skipped + c .before .before .before .noise .result < 65534
 low c = search crossing-low
 
