@@ -112,7 +112,7 @@ void tell_book(struct answer *answer, const struct ind_book *book)
 uint8_t outcome_number(enum ind_outcome outcome)
 {
     static const uint8_t numbers[] = {
-        TRAWNOSZ_NOTHING, TRAWNOSZ_CONFIRMED, TRAWNOSZ_ANSWERED, TRAWNOSZ_RESENT, TRAWNOSZ_FAILED
+        IND_TOLD_NOTHING, IND_TOLD_CONFIRMED, IND_TOLD_ANSWERED, IND_TOLD_RESENT, IND_TOLD_FAILED
     };
     return numbers[outcome];
 }
@@ -121,17 +121,17 @@ uint8_t event_number(const struct ind_received *received)
 {
     switch (received->event) {
     case IND_MORE:
-        return TRAWNOSZ_EVENT_MORE;
+        return IND_TOLD_MORE;
     case IND_NOISE:
-        return TRAWNOSZ_EVENT_NOISE;
+        return IND_TOLD_NOISE;
     case IND_PACKET:
-        return TRAWNOSZ_EVENT_PACKET;
+        return IND_TOLD_PACKET;
     case IND_EVENT_LENGTH:
-        return TRAWNOSZ_LENGTH;
+        return IND_LENGTH;
     case IND_EVENT_END:
-        return TRAWNOSZ_END;
+        return IND_END;
     case IND_EVENT_SUM:
-        return TRAWNOSZ_SUM;
+        return IND_SUM;
     default:
         return (uint8_t)received->refusal;
     }

@@ -10,8 +10,8 @@ struct section {
     size_t most;
 };
 
-static const struct section systems = {2, 2, 64};
-static const struct section parts = {38, 7, 1024};
+static const struct section systems = {2, 2, IND_MOST_SYSTEMS};
+static const struct section parts = {38, 7, IND_MOST_PARTS};
 
 /* "per section CUT of the count, MANY, CUT"; the section's bytes stand behind its count. */
 static enum ind_refusal open_section(const struct section *kind, const uint8_t *table, size_t left, size_t *count)
@@ -94,7 +94,7 @@ struct ind_span ind_find_part(const uint8_t *table, size_t size, const uint8_t k
     for (size_t i = 0; i < devices.parts; i++) {
         size_t entry = first + i * parts.entry;
         if (memcmp(table + entry, key, 7) == 0)
-            return ind_span_at(entry + 7, 31);
+            return ind_span_at(entry + 7, IND_DESCRIPTION_BYTES);
     }
     return ind_no_span(ind_refuse(IND_UNLISTED));
 }

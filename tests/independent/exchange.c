@@ -7,7 +7,7 @@ static const struct ind_exchange no_exchange;
 
 static bool settings_good(uint8_t timeout, uint8_t limit)
 {
-    return timeout >= 1 && timeout <= 10 && limit <= 9;
+    return timeout >= 1 && timeout <= IND_LONGEST_TIMEOUT && limit <= IND_MOST_RESENDS;
 }
 
 static bool place_sound(const struct ind_book *book, const struct ind_exchange *one)
@@ -27,7 +27,7 @@ static bool place_sound(const struct ind_book *book, const struct ind_exchange *
 static size_t open_at(const struct ind_book *book, uint16_t serial)
 {
     size_t place = 0;
-    while (place < 16 && (book->exchange[place].mode == IND_FREE || book->exchange[place].serial != serial))
+    while (place < IND_PLACES && (book->exchange[place].mode == IND_FREE || book->exchange[place].serial != serial))
         place++;
     return place;
 }
@@ -38,7 +38,7 @@ static bool book_sound(const struct ind_book *book)
 {
     if (!settings_good(book->timeout, book->limit))
         return false;
-    for (size_t i = 0; i < 16; i++) {
+    for (size_t i = 0; i < IND_PLACES; i++) {
         const struct ind_exchange *one = &book->exchange[i];
         if (!place_sound(book, one))
             return false;
@@ -62,7 +62,7 @@ struct ind_verdict ind_make_book(struct ind_book *book, uint8_t timeout, uint8_t
 static size_t lowest_free(const struct ind_book *book)
 {
     size_t place = 0;
-    while (place < 16 && book->exchange[place].mode != IND_FREE)
+    while (place < IND_PLACES && book->exchange[place].mode != IND_FREE)
         place++;
     return place;
 }
@@ -74,12 +74,12 @@ struct ind_turn ind_begin(struct ind_book *book, enum ind_mode mode)
     size_t place = lowest_free(book);
     if (!book_sound(book))
         turn.verdict = ind_refuse(IND_STATE);
-    else if (place == 16)
+    else if (place == IND_PLACES)
         turn.verdict = ind_refuse(IND_FULL);
     if (turn.verdict.refusal)
         return turn;
     uint16_t serial = book->next;
-    while (open_at(book, serial) < 16)
+    while (open_at(book, serial) < IND_PLACES)
         serial++;
     book->exchange[place] = (struct ind_exchange){serial, (uint8_t)mode, 0, 0};
     book->next = (uint16_t)(serial + 1);
@@ -128,7 +128,7 @@ struct ind_turn ind_hear(struct ind_book *book, enum ind_told told, uint16_t ser
     size_t place = open_at(book, serial);
     if (!book_sound(book))
         turn.verdict = ind_refuse(IND_STATE);
-    else if (place == 16 || !fits(told, book->exchange[place].mode))
+    else if (place == IND_PLACES || !fits(told, book->exchange[place].mode))
         turn.verdict = ind_refuse(IND_STRAY);
     if (turn.verdict.refusal)
         return turn;
@@ -155,7 +155,7 @@ struct ind_tick ind_pass_time(struct ind_book *book)
         tick.verdict = ind_refuse(IND_STATE);
         return tick;
     }
-    for (size_t i = 0; i < 16; i++) {
+    for (size_t i = 0; i < IND_PLACES; i++) {
         tick.serial[i] = book->exchange[i].serial;
         tick.outcome[i] = grow_older(&book->exchange[i], book);
     }

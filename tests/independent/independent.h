@@ -7,12 +7,7 @@
 #include <stdint.h>
 #include <stdio.h>
 
-/* "Refusal numbers", in the paper's order from 1. */
-enum ind_refusal {
-    IND_GOOD, IND_STATE, IND_ROOM, IND_CUT, IND_START, IND_LENGTH, IND_END, IND_SUM, IND_VERSION, IND_COMMAND, IND_TIME,
-    IND_UNIT, IND_TYPE, IND_COUNT, IND_SIZE, IND_NUMBER, IND_KIND, IND_TEXT, IND_SETTING, IND_FULL, IND_STRAY, IND_MANY,
-    IND_ORDER, IND_ORPHAN, IND_TAIL, IND_UNLISTED
-};
+#include "numbers.h"
 
 /* A refusal and its place, both 0 where all is good. */
 struct ind_verdict {
@@ -135,7 +130,7 @@ void ind_read_on(struct ind_reading *reading, const uint8_t *stream, size_t size
 
 /* A receiver's state, and a call on it. */
 struct ind_hold {
-    uint8_t row[1054];
+    uint8_t row[IND_LONGEST_PACKET];
     size_t held;
     size_t count;
 };
@@ -156,7 +151,6 @@ void ind_list(FILE *to, const uint8_t *stream, size_t size);
 
 /* ---- Exchanges ---- */
 
-enum ind_mode { IND_FREE, IND_SEND, IND_REQUEST };
 enum ind_told { IND_CONFIRM_CAME, IND_ANSWER_CAME, IND_DENY_CAME, IND_BAD_ANSWER_CAME };
 enum ind_outcome { IND_NOTHING, IND_CONFIRMED, IND_ANSWERED, IND_RESENT, IND_FAILED };
 
@@ -168,7 +162,7 @@ struct ind_exchange {
 };
 
 struct ind_book {
-    struct ind_exchange exchange[16];
+    struct ind_exchange exchange[IND_PLACES];
     uint16_t next;
     uint8_t timeout;
     uint8_t limit;
@@ -184,8 +178,8 @@ struct ind_turn {
 
 struct ind_tick {
     struct ind_verdict verdict;
-    enum ind_outcome outcome[16];
-    uint16_t serial[16];
+    enum ind_outcome outcome[IND_PLACES];
+    uint16_t serial[IND_PLACES];
 };
 
 struct ind_verdict ind_make_book(struct ind_book *book, uint8_t timeout, uint8_t limit);

@@ -20,14 +20,14 @@ uint8_t ind_sum(const uint8_t *packet, size_t unit_size)
 /* "CUT under 30, START, LENGTH, CUT, END, SUM": what stands before VERSION. */
 static struct ind_verdict judge_frame(const uint8_t *packet, size_t size)
 {
-    if (size < 30)
+    if (size < IND_FRAME_BYTES)
         return ind_refuse(IND_CUT);
     if (packet[0] != 64 || packet[1] != 64)
         return ind_refuse(IND_START);
     size_t unit_size = ind_low_first(packet + 24);
-    if (unit_size > 1024)
+    if (unit_size > IND_LONGEST_UNIT)
         return ind_refuse(IND_LENGTH);
-    if (size != 30 + unit_size)
+    if (size != IND_FRAME_BYTES + unit_size)
         return ind_refuse(IND_CUT);
     if (packet[28 + unit_size] != 35 || packet[29 + unit_size] != 35)
         return ind_refuse(IND_END);
@@ -44,7 +44,7 @@ struct ind_verdict ind_judge_packet(const uint8_t *packet, size_t size)
         return frame;
     if (packet[4] != 1)
         return ind_refuse(IND_VERSION);
-    if (packet[26] < 1 || packet[26] > 6)
+    if (packet[26] < IND_COMMAND_CONTROL || packet[26] > IND_COMMAND_DENY)
         return ind_refuse(IND_COMMAND);
     if (!ind_label_good(packet + 6))
         return ind_refuse_at(IND_TIME, 0);

@@ -27,11 +27,11 @@ void ind_frame(uint8_t *out, const struct ind_packet *fields)
 /* "Packet writer: LENGTH, ROOM, then the judge's order from COMMAND". */
 struct ind_verdict ind_write_packet(uint8_t *out, size_t room, const struct ind_packet *fields)
 {
-    if (fields->unit_size > 1024)
+    if (fields->unit_size > IND_LONGEST_UNIT)
         return ind_refuse(IND_LENGTH);
-    if (room < 30 + fields->unit_size)
+    if (room < IND_FRAME_BYTES + fields->unit_size)
         return ind_refuse(IND_ROOM);
-    if (fields->command < 1 || fields->command > 6)
+    if (fields->command < IND_COMMAND_CONTROL || fields->command > IND_COMMAND_DENY)
         return ind_refuse(IND_COMMAND);
     if (!ind_label_good(fields->label))
         return ind_refuse_at(IND_TIME, 0);
@@ -46,7 +46,7 @@ struct ind_verdict ind_write_packet_object(uint8_t *out, size_t room, size_t uni
                                            const struct ind_object *object, const uint8_t *description,
                                            size_t description_size)
 {
-    if (unit_size > 1024)
+    if (unit_size > IND_LONGEST_UNIT)
         return ind_refuse(IND_LENGTH);
     if (room < 27 + unit_size)
         return ind_refuse(IND_ROOM);
@@ -55,7 +55,7 @@ struct ind_verdict ind_write_packet_object(uint8_t *out, size_t room, size_t uni
 
 struct ind_verdict ind_write_packet_text(uint8_t *out, size_t room, const uint8_t *text, size_t text_size)
 {
-    if (text_size > 255)
+    if (text_size > IND_LONGEST_TEXT)
         return ind_refuse(IND_LENGTH);
     if (room < 27 + 3 + text_size)
         return ind_refuse(IND_ROOM);

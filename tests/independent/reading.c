@@ -11,9 +11,9 @@ static enum ind_event at_position(const uint8_t *from, size_t there)
     if (there < 26)
         return IND_MORE;
     size_t unit_size = ind_low_first(from + 24);
-    if (unit_size > 1024)
+    if (unit_size > IND_LONGEST_UNIT)
         return IND_EVENT_LENGTH;
-    if (there < 30 + unit_size)
+    if (there < IND_FRAME_BYTES + unit_size)
         return IND_MORE;
     if (from[28 + unit_size] != 35 || from[29 + unit_size] != 35)
         return IND_EVENT_END;
@@ -52,7 +52,7 @@ static void step(struct ind_reading *reading, const uint8_t *stream, size_t size
     } else if (event == IND_PACKET) {
         give(reading, IND_PACKET);
         reading->packet_at = reading->position;
-        reading->packet_size = 30 + ind_low_first(from + 24);
+        reading->packet_size = IND_FRAME_BYTES + ind_low_first(from + 24);
         reading->position += reading->packet_size;
     } else {
         give(reading, event);

@@ -12,11 +12,11 @@ void ind_fresh_hold(struct ind_hold *hold)
 /* "up to 1,054 held bytes and a skipped count of 0 to 65,534; unused room in the hold reads zero". */
 static bool hold_sound(const struct ind_hold *hold)
 {
-    if (hold->held > 1054)
+    if (hold->held > IND_LONGEST_PACKET)
         return false;
     if (hold->count > 65534)
         return false;
-    for (size_t i = hold->held; i < 1054; i++) {
+    for (size_t i = hold->held; i < IND_LONGEST_PACKET; i++) {
         if (hold->row[i] != 0)
             return false;
     }
@@ -58,7 +58,7 @@ struct ind_received ind_receive(struct ind_hold *hold, const uint8_t *piece, siz
     struct ind_received received = {IND_REFUSED, IND_GOOD, 0, 0, 0};
     if (!hold_sound(hold))
         received.refusal = IND_STATE;
-    else if (room < 1054)
+    else if (room < IND_LONGEST_PACKET)
         received.refusal = IND_ROOM;
     if (received.refusal)
         return received;

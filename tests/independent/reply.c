@@ -7,9 +7,9 @@
 static uint8_t due_when_good(uint8_t command)
 {
     switch (command) {
-    case 1:
-    case 2:
-        return 3;
+    case IND_COMMAND_CONTROL:
+    case IND_COMMAND_SEND:
+        return IND_COMMAND_CONFIRM;
     default:
         return 0;
     }
@@ -19,12 +19,12 @@ static uint8_t due_when_good(uint8_t command)
 static uint8_t due_when_refused(uint8_t command)
 {
     switch (command) {
-    case 3:
-    case 5:
-    case 6:
+    case IND_COMMAND_CONFIRM:
+    case IND_COMMAND_ANSWER:
+    case IND_COMMAND_DENY:
         return 0;
     default:
-        return 6;
+        return IND_COMMAND_DENY;
     }
 }
 
@@ -69,7 +69,7 @@ struct ind_reply ind_answer_to(const uint8_t *packet, size_t size, const uint8_t
         return reply;
     if (!ind_label_good(label)) {
         reply.verdict = ind_refuse_at(IND_TIME, 0);
-    } else if (room < 30) {
+    } else if (room < IND_FRAME_BYTES) {
         reply.verdict = ind_refuse(IND_ROOM);
     } else {
         write_reply(out, packet, label, due);
