@@ -1,14 +1,28 @@
--- Demand 1 of the tender: what is refused leaves state and lent memory as they were. Assumes nothing.
-use Prim.Native.Nat.{ℕ, _+_, _-_, _≤_}
+-- Demand 1 of the tender: what is refused leaves state and lent memory as they were; last one list of the calls that a box links, each over
+-- its own contract. Assumes nothing.
+use Prim.Native.Nat.{ℕ, suc, _+_, _-_, _≤_, _<_}
 use native.Mathlib.Omega.{arith}
 use mathlib.Core.Bool.{Bool, true, false, cond}
-use mathlib.Core.List.{List}
-use mathlib.Core.Path.{_≡_, refl, sym, ap, _∙_}
-use lib.ListN.{length, take, drop}
+use mathlib.Core.List.{List, [], _∷_, _++_}
+use mathlib.Core.Logic.{_⊎_, ⊎-elim}
+use mathlib.Core.Path.{_≡_, refl, sym, ap, subst, _∙_}
+use denote.Ref.{RefT, now}
+use borrow.Author.Tests.{lt-leb, leb-true}
+use lib.Dec.{leb, eqb}
+use lib.ListN.{length, getD, take, drop, replicate, take-append-drop}
 use Rattle.exchange.specs.declared.Exchanges.{Exchanges}
 use Rattle.exchange.specs.Calls.{Call, verdictOf, after}
-use Rattle.exchange.proofs.Changes.{refused-same}
+use Rattle.exchange.specs.declared.Begun.{Begun}
+use Rattle.exchange.specs.declared.Made.{Made}
+use Rattle.exchange.specs.declared.Replied.{Replied}
+use Rattle.exchange.specs.declared.Ticked.{Ticked}
+use Rattle.exchange.specs.declared.Told.{Told}
+use Rattle.exchange.specs.declared.Told.the-variants.{Send, Request}
+use Rattle.exchange.specs.Table.{blank, made, begun}
+use Rattle.exchange.specs.Table as exchanges
+use Rattle.exchange.proofs.Changes.{refused-same, begin-refused, reply-refused, tick-refused}
 use Rattle.fields.specs.declared.Fields.{Fields}
+use Rattle.frame.specs.Frame.{room, packetLength, unitLength, ended, summed}
 use Rattle.kinds.specs.Table.{table, rows}
 use Rattle.label.specs.declared.Label.{Label}
 use Rattle.objects.specs.Writing.{writeVerdict, writtenUnit}
@@ -16,15 +30,47 @@ use Rattle.objects.specs.Texts.{textVerdict, writtenText}
 use Rattle.octets.specs.Parts.{part, putAt}
 use Rattle.octets.proofs.Parts.{part-is, length-part, put-same}
 use Rattle.output.specs.Writing.{roomTests, packetVerdict, writtenPacket}
-use Rattle.output.specs.Objects.{objectVerdict, writtenObject}
+use Rattle.output.specs.Objects.{objectVerdict, writtenObject, outputTextVerdict, writtenOutputText}
 use Rattle.output.proofs.Judging.{kept, roomy}
 use Rattle.packet.specs.declared.Header.{Header}
+use Rattle.place.specs.declared.Reply.{Reply}
+use Rattle.place.specs.declared.Reply.the-variants.{Confirm, Answer, Deny, BadAnswer}
+use Rattle.place.specs.Steps.{NOTHING}
+use Rattle.places.specs.Rows.{nothing}
 use Rattle.reading.specs.declared.Event.the-variants.{Refused}
-use Rattle.reading.specs.Calls.{State, callTests, called}
-use Rattle.reading.proofs.Call.{call-refused}
-use Rattle.reply.specs.Replies.{replyVerdict, writtenReply}
-use Rattle.verdict.specs.Orders.{inOrder, good, isGood}
-use Rattle.verdict.proofs.Order.{goes-on}
+use Rattle.reading.specs.declared.Standing.{Standing}
+use Rattle.reading.specs.declared.Standing.the-variants.{Wait, Skip, Hit}
+use Rattle.reading.specs.Values.{told}
+use Rattle.reading.specs.Standing.{judgedFrame, started, stands}
+use Rattle.reading.specs.Finding.{noiseAt, onward, more, noise, hit, found, first}
+use Rattle.reading.specs.Calls.{State, heldBytes, sound, callTests, answerBy, called}
+use Rattle.reading.specs.Calls.{Answer as Called}
+use Rattle.reading.proofs.Stands.{there-any, choice-any}
+use Rattle.reading.proofs.Call.{call-refused, call-good}
+use Rattle.receiver.specs.Receivers.{lent, servedOf}
+use Rattle.reply.specs.Replies.{commandFor, replyVerdict, answered, writtenReply}
+use Rattle.trawnosz.specs.declared.AnswerC.{AnswerC}
+use Rattle.trawnosz.specs.declared.ServedC.{ServedC}
+use Rattle.trawnosz.proofs.trawnosz_exchanges_fresh.Reads as exchanges-fresh
+use Rattle.trawnosz.proofs.trawnosz_begin_send.Reads as begin-send
+use Rattle.trawnosz.proofs.trawnosz_begin_request.Reads as begin-request
+use Rattle.trawnosz.proofs.trawnosz_reply_confirm.Reads as reply-confirm
+use Rattle.trawnosz.proofs.trawnosz_reply_answer.Reads as reply-answer
+use Rattle.trawnosz.proofs.trawnosz_reply_deny.Reads as reply-deny
+use Rattle.trawnosz.proofs.trawnosz_reply_bad_answer.Reads as reply-bad-answer
+use Rattle.trawnosz.proofs.trawnosz_tick.Reads as tick
+use Rattle.trawnosz.proofs.trawnosz_receive.Reads as receive
+use Rattle.trawnosz.proofs.trawnosz_write_packet.Reads as write-packet
+use Rattle.trawnosz.proofs.trawnosz_write_packet_object.Reads as write-packet-object
+use Rattle.trawnosz.proofs.trawnosz_write_packet_text.Reads as write-packet-text
+use Rattle.trawnosz.proofs.trawnosz_answer_to.Reads as answer-to
+use Rattle.trawnosz.proofs.trawnosz_write_object.Reads as write-object
+use Rattle.trawnosz.proofs.trawnosz_write_text.Reads as write-text
+use Rattle.trawnosz.specs.Calls.{servedTo}
+use Rattle.verdict.specs.declared.Verdict.{Verdict}
+use Rattle.verdict.specs.Orders.{inOrder, refusal, good, isGood}
+use Rattle.verdict.specs.Refusals.{STATE, ROOM, LENGTH}
+use Rattle.verdict.proofs.Order.{passed, failed, good-held, goes-on}
 
 -- DEMAND 1: "What it will not take it refuses by number; the state comes back as it was given and the lent memory is untouched."
 pub refused-packet : (out : List ℕ) (h : Header) (l : ℕ) → isGood (packetVerdict rows out h l) ≡ false → writtenPacket rows out h l ≡ out
@@ -37,6 +83,11 @@ refused-object u k f d e = simp e
 pub refused-text : (out t : List ℕ) → isGood (textVerdict out t) ≡ false → writtenText out t ≡ out
 unfolding writtenText
 refused-text out t e = simp e
+
+-- the same from byte 28 of a packet's output
+pub refused-output-text : (out t : List ℕ) → isGood (outputTextVerdict out t) ≡ false → writtenOutputText out t ≡ out
+unfolding writtenOutputText
+refused-output-text out t e = ap (λ (u : List ℕ). take 27 out ++ u) (refused-text (drop 27 out) t e) ∙ take-append-drop 27 out
 
 pub refused-output : (out : List ℕ) (l k : ℕ) (f : Fields) (d : List ℕ) → isGood (objectVerdict rows out l k f d) ≡ false → writtenObject table out l k f d ≡ out
 unfolding objectVerdict writtenObject
@@ -67,3 +118,182 @@ refused-call st piece out e = call-refused 1024 st piece out _ refl e
 
 pub refused-exchange : (x : Exchanges) (c : Call) → isGood (verdictOf x c) ≡ false → after x c ≡ x
 refused-exchange = refused-same
+
+refused-due : (p : List ℕ) (t : Label) (out : List ℕ) → isGood (replyVerdict rows p t out) ≡ false → commandFor (answered rows p t out .due) ≡ 0
+unfolding answered
+refused-due p t out e = simp e
+
+not-made : (t m : ℕ) → isGood (made t m .verdict) ≡ false → made t m .state ≡ blank 0 0
+unfolding made
+not-made t m e = simp e
+
+-- what the reading finds has other numbers than a refused call's STATE and ROOM
+abbrev Numbered : Standing → Type 0
+Numbered Wait = Unit
+Numbered (Skip k) = Unit
+Numbered (Hit e k p) = LENGTH ≤ told e .number
+
+numbered : (M : ℕ) (xs : List ℕ) → Numbered (stands M xs)
+unfolding stands started judgedFrame told
+numbered M xs =
+    there-any Numbered 1 xs _ (λ _. tt)
+    (λ _. choice-any Numbered (eqb (getD xs 0 0) 64) _ _
+    (λ _. there-any Numbered 2 xs _ (λ _. tt)
+    (λ _. choice-any Numbered (eqb (getD xs 1 0) 64) _ _
+    (λ _. there-any Numbered 26 xs _ (λ _. tt)
+    (λ _. choice-any Numbered (leb (unitLength xs) M) _ _
+    (λ _. there-any Numbered (packetLength (unitLength xs)) xs _ (λ _. tt)
+    (λ _. choice-any Numbered (ended (unitLength xs) xs) _ _
+    (λ _. choice-any Numbered (summed (unitLength xs) xs) _ _ (λ _. omega arith) (λ _. omega arith))
+    (λ _. omega arith)))
+    (λ _. omega arith)))
+    (λ _. tt)))
+    (λ _. tt))
+
+found-number : (M s : ℕ) (xs : List ℕ) → LENGTH ≤ told (first M s xs .event) .number
+unfolding first found more noise onward hit told
+found-number M s [] = omega arith
+found-number M s (x ∷ xs) = by-case (stands M (x ∷ xs)) (numbered M (x ∷ xs)) (found-number M (suc s) xs)
+  where
+    by-test : (k : ℕ) (t : Bool) → LENGTH ≤ told (first M (suc s) xs .event) .number
+        → LENGTH ≤ told (cond t (noise k) (onward (first M (suc s) xs)) .event) .number
+    by-test k true h = omega arith
+    by-test k false h = h
+
+    by-case : (v : Standing) → Numbered v → LENGTH ≤ told (first M (suc s) xs .event) .number
+        → LENGTH ≤ told (found v s (length (x ∷ xs)) (first M (suc s) xs) .event) .number
+    by-case Wait n h = omega arith
+    by-case (Skip k) n h = by-test k (eqb (suc s) noiseAt) h
+    by-case (Hit e k p) n h = n
+
+-- THE LIST: each call that a box links, whatever answer meets its contract.
+-- These take no state and are lent nothing to write in:
+-- trawnosz_judge_packet, trawnosz_read_packet, trawnosz_unit_place, trawnosz_judge_unit, trawnosz_judge_unit_under, trawnosz_object_place,
+-- trawnosz_read_object, trawnosz_description_place, trawnosz_judge_table, trawnosz_find_place.
+-- This one refuses nothing: trawnosz_fresh.
+
+-- trawnosz_receive: with the held bytes and the count that were given, zero for all else; the hold and the buffer as they were
+abbrev pub notServed : ℕ → ℕ → ℕ → ServedC
+notServed event held count = record { event = event; length = 0; skipped = 0; taken = 0; held = held; count = count }
+
+module _ (κs : _) (hold h : RefT (List ℕ)) (held count : ℕ) (piece out o : RefT (List ℕ)) (r : ServedC)
+    (p : receive.Post κs (hold, (held, (count, (piece, (out, tt))))) r (h, (held, (count, (piece, (o, tt)))))) where
+  abbrev st : State
+  st = lent (now hold) held count
+
+  as-given : (v : Verdict) → inOrder (callTests 1024 st (now out)) good ≡ v → isGood v ≡ false
+      → (r ≡ notServed (v .number) held count) × (now h ≡ now hold) × (now o ≡ now out)
+  unfolding told
+  as-given v e b =
+      let c = call-refused 1024 st (now piece) (now out) v e b in
+      (p .0 ∙ ap (λ (a : Called). servedTo (servedOf a)) c, p .1 .0 ∙ ap (λ (a : Called). a .state .hold) c, p .1 .1 ∙ ap (λ (a : Called). a .out) c)
+
+  pub refused-state : sound 1024 st ≡ false → (r ≡ notServed STATE held count) × (now h ≡ now hold) × (now o ≡ now out)
+  refused-state s = as-given (refusal STATE 0) (failed _ _ good s) refl
+
+  pub refused-room : sound 1024 st ≡ true → length (now out) < 1054 → (r ≡ notServed ROOM held count) × (now h ≡ now hold) × (now o ≡ now out)
+  unfolding room
+  refused-room s k = as-given (refusal ROOM 0) (passed _ _ good s ∙ failed _ _ good (lt-leb 1054 (length (now out)) k)) refl
+
+  -- a box knows a refused call by its event
+  pub refused-receive : (r .event ≡ STATE) ⊎ (r .event ≡ ROOM) → (r ≡ notServed (r .event) held count) × (now h ≡ now hold) × (now o ≡ now out)
+  unfolding answerBy
+  refused-receive which = by-test (isGood (inOrder (callTests 1024 st (now out)) good)) refl
+    where
+      low : r .event < LENGTH
+      low = ⊎-elim (λ e. omega arith) (λ e. omega arith) which
+
+      by-test : (b : Bool) → isGood (inOrder (callTests 1024 st (now out)) good) ≡ b
+          → (r ≡ notServed (r .event) held count) × (now h ≡ now hold) × (now o ≡ now out)
+      by-test false g =
+          let q = as-given (inOrder (callTests 1024 st (now out)) good) refl g in
+          (q .0 ∙ ap (λ (a : ServedC). notServed (a .event) held count) (sym (q .0)), q .1, q .2)
+      by-test true g =
+          let k = good-held (callTests 1024 st (now out)) good refl g .0 in
+          let c = call-good 1024 st (now piece) (now out) (k .0) (leb-true (room 1024) (length (now out)) (k .1 .0)) in
+          let n : r .event ≡ told (called 1024 st (now piece) (now out) .event) .number = ap (λ (a : ServedC). a .event) (p .0) in
+          absurd (omega (arith, low, n ∙ ap (λ (a : Called). told (a .event) .number) c, found-number 1024 count (heldBytes st ++ now piece)))
+
+-- trawnosz_write_packet
+pub refused-write-packet : (κs : _) (out o : RefT (List ℕ)) (h : Header) (l : ℕ) (r : Verdict)
+    → write-packet.Post κs (out, (h, (l, tt))) r (o, (h, (l, tt))) → isGood r ≡ false → now o ≡ now out
+refused-write-packet κs out o h l r p e = p .1 ∙ refused-packet (now out) h l (ap isGood (sym (p .0)) ∙ e)
+
+-- trawnosz_write_packet_object
+pub refused-write-packet-object : (κs : _) (out o : RefT (List ℕ)) (l k : ℕ) (f : Fields) (d : RefT (List ℕ)) (r : Verdict)
+    → write-packet-object.Post κs (out, (l, (k, (f, (d, tt))))) r (o, (l, (k, (f, (d, tt))))) → isGood r ≡ false → now o ≡ now out
+refused-write-packet-object κs out o l k f d r p e = p .1 ∙ refused-output (now out) l k f (now d) (ap isGood (sym (p .0)) ∙ e)
+
+-- trawnosz_write_packet_text
+pub refused-write-packet-text : (κs : _) (out o t : RefT (List ℕ)) (r : Verdict)
+    → write-packet-text.Post κs (out, (t, tt)) r (o, (t, tt)) → isGood r ≡ false → now o ≡ now out
+refused-write-packet-text κs out o t r p e = p .1 ∙ refused-output-text (now out) (now t) (ap isGood (sym (p .0)) ∙ e)
+
+-- trawnosz_write_object
+pub refused-write-object : (κs : _) (u v : RefT (List ℕ)) (k : ℕ) (f : Fields) (d : RefT (List ℕ)) (r : Verdict)
+    → write-object.Post κs (u, (k, (f, (d, tt)))) r (v, (k, (f, (d, tt)))) → isGood r ≡ false → now v ≡ now u
+refused-write-object κs u v k f d r p e = p .1 ∙ refused-object (now u) k f (now d) (ap isGood (sym (p .0)) ∙ e)
+
+-- trawnosz_write_text
+pub refused-write-text : (κs : _) (out o t : RefT (List ℕ)) (r : Verdict)
+    → write-text.Post κs (out, (t, tt)) r (o, (t, tt)) → isGood r ≡ false → now o ≡ now out
+refused-write-text κs out o t r p e = p .1 ∙ refused-text (now out) (now t) (ap isGood (sym (p .0)) ∙ e)
+
+-- trawnosz_answer_to
+pub refused-answer-to : (κs : _) (p : RefT (List ℕ)) (t : Label) (out o : RefT (List ℕ)) (r : AnswerC)
+    → answer-to.Post κs (p, (t, (out, tt))) r (p, (t, (o, tt))) → isGood (r .verdict) ≡ false → (r .command ≡ 0) × (now o ≡ now out)
+unfolding answered
+refused-answer-to κs p t out o r q e =
+    let no : isGood (replyVerdict rows (now p) t (now out)) ≡ false = ap (λ (a : AnswerC). isGood (a .verdict)) (sym (q .0)) ∙ e in
+    (ap (λ (a : AnswerC). a .command) (q .0) ∙ refused-due (now p) t (now out) no, q .1 ∙ refused-reply (now p) t (now out) no)
+
+-- trawnosz_exchanges_fresh, which takes no state: "making a table: SETTING, with a table of zeros"
+pub refused-exchanges-fresh : (t m : ℕ) (r : Made) → exchanges-fresh.Post tt (t, (m, tt)) r (t, (m, tt))
+    → isGood (r .verdict) ≡ false → r .state ≡ blank 0 0
+refused-exchanges-fresh t m r p = subst (λ (b : Made). isGood (b .verdict) ≡ false → b .state ≡ blank 0 0) (sym p) (not-made t m)
+
+-- trawnosz_begin_send and trawnosz_begin_request: with the table that was given, zero for all else
+abbrev pub noBeginning : Exchanges → Verdict → Begun
+noBeginning x v = record { verdict = v; place = 0; serial = 0; state = x }
+
+not-begun : (x : Exchanges) (m : Told) (r : Begun) → r ≡ begun x m → isGood (r .verdict) ≡ false → r ≡ noBeginning x (r .verdict)
+not-begun x m r p = subst (λ (b : Begun). isGood (b .verdict) ≡ false → b ≡ noBeginning x (b .verdict)) (sym p) (begin-refused x m)
+
+pub refused-begin-send : (x : Exchanges) (r : Begun) → begin-send.Post tt (x, tt) r (x, tt)
+    → isGood (r .verdict) ≡ false → r ≡ noBeginning x (r .verdict)
+refused-begin-send x r p = not-begun x Send r p
+
+pub refused-begin-request : (x : Exchanges) (r : Begun) → begin-request.Post tt (x, tt) r (x, tt)
+    → isGood (r .verdict) ≡ false → r ≡ noBeginning x (r .verdict)
+refused-begin-request x r p = not-begun x Request r p
+
+-- trawnosz_reply_confirm, trawnosz_reply_answer, trawnosz_reply_deny and trawnosz_reply_bad_answer
+abbrev pub noReply : Exchanges → Verdict → Replied
+noReply x v = record { verdict = v; place = 0; outcome = NOTHING; state = x }
+
+not-replied : (x : Exchanges) (s : ℕ) (w : Reply) (r : Replied) → r ≡ exchanges.answered x s w
+    → isGood (r .verdict) ≡ false → r ≡ noReply x (r .verdict)
+not-replied x s w r p = subst (λ (b : Replied). isGood (b .verdict) ≡ false → b ≡ noReply x (b .verdict)) (sym p) (reply-refused x s w)
+
+pub refused-reply-confirm : (x : Exchanges) (s : ℕ) (r : Replied) → reply-confirm.Post tt (x, (s, tt)) r (x, (s, tt))
+    → isGood (r .verdict) ≡ false → r ≡ noReply x (r .verdict)
+refused-reply-confirm x s r p = not-replied x s Confirm r p
+
+pub refused-reply-answer : (x : Exchanges) (s : ℕ) (r : Replied) → reply-answer.Post tt (x, (s, tt)) r (x, (s, tt))
+    → isGood (r .verdict) ≡ false → r ≡ noReply x (r .verdict)
+refused-reply-answer x s r p = not-replied x s Answer r p
+
+pub refused-reply-deny : (x : Exchanges) (s : ℕ) (r : Replied) → reply-deny.Post tt (x, (s, tt)) r (x, (s, tt))
+    → isGood (r .verdict) ≡ false → r ≡ noReply x (r .verdict)
+refused-reply-deny x s r p = not-replied x s Deny r p
+
+pub refused-reply-bad-answer : (x : Exchanges) (s : ℕ) (r : Replied) → reply-bad-answer.Post tt (x, (s, tt)) r (x, (s, tt))
+    → isGood (r .verdict) ≡ false → r ≡ noReply x (r .verdict)
+refused-reply-bad-answer x s r p = not-replied x s BadAnswer r p
+
+-- trawnosz_tick
+abbrev pub noTick : Exchanges → Verdict → Ticked
+noTick x v = record { verdict = v; reports = replicate 16 nothing; state = x }
+
+pub refused-tick : (x : Exchanges) (r : Ticked) → tick.Post tt (x, tt) r (x, tt) → isGood (r .verdict) ≡ false → r ≡ noTick x (r .verdict)
+refused-tick x r p = subst (λ (b : Ticked). isGood (b .verdict) ≡ false → b ≡ noTick x (b .verdict)) (sym p) (tick-refused x)
