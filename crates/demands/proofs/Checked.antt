@@ -1,34 +1,38 @@
--- Document 01, "Checked examples": A, B and 1 to 10 as one table under one theorem, each answer in numbers. Assumes nothing.
-use Prim.Native.Nat.{ℕ, zero, suc, _%_}
+-- Document 01, "Checked examples": A, B and 1 to 10 as one table under one theorem, each answer in numbers under their names. Assumes nothing.
+use Prim.Native.Nat.{ℕ, zero, suc}
 use mathlib.Core.List.{List, [], _∷_, _++_, map}
 use mathlib.Core.Path.{_≡_, refl}
 use lib.ListN.{length, set, take, drop, replicate}
 use Rattle.exchange.specs.declared.Exchanges.{Exchanges}
 use Rattle.exchange.specs.declared.Told.the-variants.{Send}
 use Rattle.exchange.specs.Table.{legal, made, found, begun, ticking}
-use Rattle.frame.specs.Frame.{room, unitLength, ended, summed}
+use Rattle.frame.specs.Frame.{room, unitLength, sumOf, ended, summed}
 use Rattle.kinds.specs.Table.{table, rowsOf, rows, findRow}
-use Rattle.label.specs.Times.{judged, inRanges}
+use Rattle.label.specs.Times.{labelBytes, judged, inRanges}
 use Rattle.octets.specs.Numbers.{lowFirst}
 use Rattle.octets.specs.Parts.{part}
 use Rattle.octets.specs.Searches.{firstFit, anyFits, every}
 use Rattle.octets.specs.Sums.{total}
 use Rattle.octets.proofs.Examples.{A}
-use Rattle.packet.specs.Frames.{judgedContent, judgedPacket}
+use Rattle.packet.specs.declared.Header.{Header}
+use Rattle.packet.specs.Frames.{judgedContent, judgedPacket, unitPlace}
+use Rattle.packet.specs.Headers.{openedPacket}
 use Rattle.packet.proofs.Examples.{B}
 use Rattle.place.specs.Rules.{isOpen, isZero, holds, keeps}
-use Rattle.place.specs.Steps.{denied, ticked}
+use Rattle.place.specs.Steps.{NOTHING, RESENT, FAILED, denied, ticked}
 use Rattle.places.specs.declared.Report.{Report}
 use Rattle.places.specs.Rows.{lowestFree, isOpenAs, twice, allKeep, serialFor, swept}
-use Rattle.reading.specs.Values.{told, packetOf}
+use Rattle.reading.specs.Values.{MORE, PACKET, told, packetOf}
 use Rattle.reading.specs.Standing.{whenThere, judgedFrame, started, stands}
-use Rattle.reading.specs.Finding.{onward, more, noise, hit, found as foundIn, first}
-use Rattle.reading.specs.Calls.{State, Answer, padTo, sound, answerBy, called, fresh}
+use Rattle.reading.specs.Finding.{onward, more, noise, hit, found as foundIn, first, Heard, Reading, readOn, reading}
+use Rattle.reading.specs.Calls.{State, Answer, padTo, heldBytes, sound, answerBy, called, fresh}
+use Rattle.reply.specs.declared.Due.the-variants.{Confirm}
+use Rattle.reply.specs.Replies.{commandFor}
 use Rattle.unit.specs.declared.Carrier.the-variants.{Any}
 use Rattle.unit.specs.Objects.{textSize, endOf, walk, timely}
 use Rattle.unit.specs.Units.{judgedUnit, judgedUnder}
 use Rattle.verdict.specs.declared.Verdict.{Verdict}
-use Rattle.verdict.specs.Orders.{inOrder}
+use Rattle.verdict.specs.Orders.{inOrder, refusal, good, partBy, partIn}
 use Rattle.verdict.specs.Refusals.{LENGTH, END, SUM, TIME, COUNT}
 
 -- a verdict's number and place
@@ -38,37 +42,76 @@ of v = v .number ∷ v .place ∷ []
 abbrev ofPacket : List ℕ → List ℕ
 ofPacket p = of (judgedPacket rows p)
 
--- a receiver's answer: the event's number, the count that it carries, and the bytes taken
+-- the fields that a packet is read as
+abbrev fieldsOf : List ℕ → Header
+fieldsOf p = openedPacket rows p .header
+
+abbrev versionLabelAddresses : List ℕ → List ℕ
+versionLabelAddresses p = fieldsOf p .version ∷ labelBytes (fieldsOf p .label) ++ fieldsOf p .source ++ fieldsOf p .destination
+
+-- A with this day, and the sum that it then has
+abbrev onDay : ℕ → ℕ → List ℕ
+onDay day sum = set (set A 9 day) 27 sum
+
+-- a receiver's answer: the event's number and its packet's length, the count that it carries, the bytes taken, then the count and the bytes held
+abbrev shows : ℕ → ℕ → ℕ → ℕ → ℕ → List ℕ → List ℕ
+shows event size skipped taken count held = event ∷ size ∷ skipped ∷ taken ∷ count ∷ held
+
+abbrev shown : Answer → List ℕ
+shown a = shows (told (a .event) .number) (told (a .event) .length) (a .skipped) (a .taken) (a .state .skipped) (heldBytes (a .state))
+
 abbrev call : State → List ℕ → Answer
 call s piece = called 1024 s piece (replicate 1054 0)
 
-abbrev shown : Answer → List ℕ
-shown a = told (a .event) .number ∷ a .skipped ∷ a .taken ∷ []
-
 abbrev afresh : List ℕ → Answer
 afresh piece = call (fresh 1024) piece
-
-abbrev repeated : ℕ → List ℕ → List ℕ
-repeated zero o = []
-repeated (suc n) o = o ++ repeated n o
-
--- so many transmitter operations
-abbrev operations : ℕ → List ℕ
-operations n = 24 ∷ n ∷ repeated n (1 ∷ 2 ∷ 0x00 ∷ 0x1E ∷ 0x08 ∷ 0x0F ∷ 0x06 ∷ 0x18 ∷ [])
 
 -- a start of 26 bytes with this L
 abbrev start : ℕ → ℕ → List ℕ
 start low high = 64 ∷ 64 ∷ replicate 22 0 ++ low ∷ high ∷ []
 
--- a table after a beginning, and the outcome that the next tick tells of its first place
+-- `00 40` then A, and the three calls by which it is heard
+abbrev tenth : List ℕ
+tenth = 0x00 ∷ 0x40 ∷ A
+
+abbrev call-1 : Answer
+call-1 = afresh tenth
+
+abbrev call-2 : Answer
+call-2 = call (call-1 .state) (drop (call-1 .taken) tenth)
+
+abbrev call-3 : Answer
+call-3 = call (call-2 .state) (drop (call-2 .taken) (drop (call-1 .taken) tenth))
+
+-- a reading as the listing has it: of each event the count, its number and its packet's length; then how many are held, and the count
+abbrev lines : List Heard → List ℕ
+lines [] = []
+lines (h ∷ hs) = h .skipped ∷ told (h .event) .number ∷ told (h .event) .length ∷ lines hs
+
+abbrev listing : Reading → List ℕ
+listing r = lines (r .heard) ++ length (r .held) ∷ r .skipped ∷ []
+
+-- so many transmitter operations
+abbrev repeated : ℕ → List ℕ → List ℕ
+repeated zero o = []
+repeated (suc n) o = o ++ repeated n o
+
+abbrev operations : ℕ → List ℕ
+operations n = 24 ∷ n ∷ repeated n (1 ∷ 2 ∷ 0x00 ∷ 0x1E ∷ 0x08 ∷ 0x0F ∷ 0x06 ∷ 0x18 ∷ [])
+
+-- a table of these T and R after a beginning, and what the next tick tells of its sixteen places
 abbrev opened : ℕ → ℕ → Exchanges
 opened t r = begun (made t r .state) Send .state
 
 abbrev outcomes : Exchanges → List ℕ
-outcomes x = take 1 (map (λ (r : Report). r .outcome) (ticking x .reports))
+outcomes x = map (λ (r : Report). r .outcome) (ticking x .reports)
 
-abbrev serialFrom : ℕ → List ℕ
-serialFrom n =
+abbrev ofTheFirst : ℕ → List ℕ
+ofTheFirst outcome = outcome ∷ replicate 15 NOTHING
+
+-- the serials of two beginnings
+abbrev serialsFrom : ℕ → List ℕ
+serialsFrom n =
     let x : Exchanges = made 1 0 .state in
     let y = begun (record { places = x .places; next = n; timeout = 1; resends = 0 }) Send in
     y .serial ∷ begun (y .state) Send .serial ∷ []
@@ -76,40 +119,55 @@ serialFrom n =
 -- what is said, and what document 01 says
 abbrev pub checked : List (List ℕ × List ℕ)
 checked =
-    -- "A: .. a good confirm. Sum 93."
-    (ofPacket A ++ (total (take 25 (drop 2 A)) % 256 ∷ []), 0 ∷ 0 ∷ 93 ∷ [])
-    -- "B: .. sum `D0`, 39 bytes, good."
-    ∷ (ofPacket B ++ (total (take 34 (drop 2 B)) % 256 ∷ length B ∷ []), 0 ∷ 0 ∷ 0xD0 ∷ 39 ∷ [])
-    -- "1. A with sum 5E: SUM."
-    ∷ (ofPacket (set A 27 0x5E), SUM ∷ 0 ∷ [])
+    -- "A: .., a good confirm. Sum 93."
+    (ofPacket A, of good)
+    ∷ (fieldsOf A .command ∷ [], commandFor Confirm ∷ [])
+    ∷ (sumOf 0 A ∷ [], 93 ∷ [])
+    -- "B: serial 6, version, label and addresses as A, command 2, unit `15 01 01 00 1E 08 0F 06 18`: sum `D0`, 39 bytes, good."
+    ∷ (ofPacket B, of good)
+    ∷ (fieldsOf B .serial ∷ fieldsOf B .command ∷ [], 6 ∷ 2 ∷ [])
+    ∷ (versionLabelAddresses B, versionLabelAddresses A)
+    ∷ (partIn B (unitPlace rows B), 0x15 ∷ 0x01 ∷ 0x01 ∷ 0x00 ∷ 0x1E ∷ 0x08 ∷ 0x0F ∷ 0x06 ∷ 0x18 ∷ [])
+    ∷ (sumOf 9 B ∷ length B ∷ [], 0xD0 ∷ 39 ∷ [])
+    -- "1. A with sum 5E: SUM.", of the judge and of the receiver
+    ∷ (ofPacket (set A 27 0x5E), of (refusal SUM 0))
+    ∷ (shown (afresh (set A 27 0x5E)), shows SUM 0 0 30 0 (drop 1 (set A 27 0x5E)))
     -- "2. A with last byte 24 hex and sum 5E: END."
-    ∷ (ofPacket (set (set A 29 0x24) 27 0x5E), END ∷ 0 ∷ [])
+    ∷ (ofPacket (set (set A 29 0x24) 27 0x5E), of (refusal END 0))
+    ∷ (shown (afresh (set (set A 29 0x24) 27 0x5E)), shows END 0 0 30 0 (drop 1 (set (set A 29 0x24) 27 0x5E)))
     -- "3. Day 31 good; 0 and 32 TIME."
-    ∷ (ofPacket (set (set A 9 31) 27 0x6D), 0 ∷ 0 ∷ [])
-    ∷ (ofPacket (set (set A 9 0) 27 0x4E), TIME ∷ 0 ∷ [])
-    ∷ (ofPacket (set (set A 9 32) 27 0x6E), TIME ∷ 0 ∷ [])
+    ∷ (ofPacket (onDay 31 0x6D), of good)
+    ∷ (ofPacket (onDay 0 0x4E), of (refusal TIME 0))
+    ∷ (ofPacket (onDay 32 0x6E), of (refusal TIME 0))
     -- "4. L 1,024 waits; 1,025 is LENGTH on byte 26."
-    ∷ (shown (afresh (start 0 4)), 32 ∷ 0 ∷ 26 ∷ [])
-    ∷ (shown (afresh (start 1 4)), LENGTH ∷ 0 ∷ 26 ∷ [])
+    ∷ (shown (afresh (start 0 4)), shows MORE 0 0 26 0 (start 0 4))
+    ∷ (shown (afresh (take 25 (start 1 4))), shows MORE 0 0 25 0 (take 25 (start 1 4)))
+    ∷ (shown (afresh (start 1 4)), shows LENGTH 0 0 26 0 (drop 1 (start 1 4)))
     -- "5. n of type 24: 127 good, 128 COUNT."
-    ∷ (of (judgedUnit rows Any (operations 127)), 0 ∷ 0 ∷ [])
-    ∷ (of (judgedUnit rows Any (operations 128)), COUNT ∷ 0 ∷ [])
+    ∷ (of (judgedUnit rows Any (operations 127)), of good)
+    ∷ (of (judgedUnit rows Any (operations 128)), of (refusal COUNT 0))
     -- "6. T 1, R 0: begin, tick: failed."
-    ∷ (outcomes (opened 1 0), 43 ∷ [])
+    ∷ (outcomes (opened 1 0), ofTheFirst FAILED)
     -- "7. T 1, R 1: resend, then failed."
-    ∷ (outcomes (opened 1 1) ++ outcomes (ticking (opened 1 1) .state), 42 ∷ 43 ∷ [])
+    ∷ (outcomes (opened 1 1), ofTheFirst RESENT)
+    ∷ (outcomes (ticking (opened 1 1) .state), ofTheFirst FAILED)
     -- "8. Next serial 65,535 gives 65,535, then 0."
-    ∷ (serialFrom 65535, 65535 ∷ 0 ∷ [])
+    ∷ (serialsFrom 65535, 65535 ∷ 0 ∷ [])
     -- "9. A lone 64 is held."
-    ∷ (shown (afresh (64 ∷ [])) ++ (afresh (64 ∷ []) .state .held ∷ []), 32 ∷ 0 ∷ 1 ∷ 1 ∷ [])
-    -- "10. `00 40` then A lists": "The END call takes 31 bytes, the next one 1."
-    ∷ (shown (afresh (0 ∷ 64 ∷ A)), END ∷ 1 ∷ 31 ∷ [])
-    ∷ (shown (call (afresh (0 ∷ 64 ∷ A) .state) (drop 31 (0 ∷ 64 ∷ A))), 34 ∷ 0 ∷ 1 ∷ [])
+    ∷ (shown (afresh (64 ∷ [])), shows MORE 0 0 1 0 (64 ∷ []))
+    -- "10. `00 40` then A lists:" "1 END", "0 PACKET 30 5 3 OK", "held 0 skipped 0"
+    ∷ (listing (reading 1024 0 0 tenth), 1 ∷ END ∷ 0 ∷ 0 ∷ PACKET ∷ 30 ∷ 0 ∷ 0 ∷ [])
+    ∷ (take 30 (call-2 .out), A)
+    ∷ (fieldsOf A .serial ∷ fieldsOf A .command ∷ ofPacket A, 5 ∷ 3 ∷ of good)
+    -- "The END call takes 31 bytes, the next one 1."
+    ∷ (shown call-1, shows END 0 1 31 0 (take 29 A))
+    ∷ (shown call-2, shows PACKET 30 0 1 0 [])
+    ∷ (shown call-3, shows MORE 0 0 0 0 [])
     ∷ []
 
 pub checked-so : map (λ (e : List ℕ × List ℕ). e .0) checked ≡ map (λ (e : List ℕ × List ℕ). e .1) checked
-unfolding judgedPacket judgedContent judgedUnder judgedUnit inOrder rowsOf table findRow textSize endOf walk timely judged
-    inRanges firstFit anyFits lowFirst part total called answerBy sound every padTo first foundIn more noise hit onward stands
+unfolding openedPacket unitPlace partBy judgedPacket judgedContent judgedUnder judgedUnit inOrder rowsOf table findRow textSize endOf walk timely judged
+    inRanges firstFit anyFits lowFirst part total called answerBy sound every padTo first foundIn more noise hit onward stands reading readOn
     started judgedFrame summed ended unitLength whenThere room told packetOf made found begun ticking legal lowestFree isOpenAs
     twice allKeep serialFor swept isOpen isZero holds keeps denied ticked
 checked-so = refl
