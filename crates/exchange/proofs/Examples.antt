@@ -1,4 +1,4 @@
--- Document 01's examples 6, 7 and 8 and the readings of the exchange table, by computation. Assumes nothing.
+-- The readings of the exchange table, by computation. Assumes nothing.
 use Prim.Native.Nat.{ℕ}
 use mathlib.Core.List.{List, [], _∷_, _++_, map}
 use mathlib.Core.Path.{_≡_, refl}
@@ -67,12 +67,8 @@ broken x =
 
 abbrev pub examples : List Example
 examples =
-    -- 6. "T 1, R 0: begin, tick: failed"
-    example (made 1 0 .state) (begin told.Send ∷ tick ∷ []) ((0 ∷ 0 ∷ 0 ∷ 1 ∷ []) ∷ first 0 FAILED ∷ []) both-free
-    -- 7. "T 1, R 1: resend, then failed"
-    ∷ example (made 1 1 .state) (begin told.Request ∷ tick ∷ tick ∷ []) ((0 ∷ 0 ∷ 0 ∷ 1 ∷ []) ∷ first 0 RESENT ∷ first 0 FAILED ∷ []) both-free
-    -- 8. "Next serial 65,535 gives 65,535, then 0"
-    ∷ example (table [] 65535 1 0) (begin told.Send ∷ begin told.Request ∷ []) ((0 ∷ 0 ∷ 65535 ∷ 0 ∷ []) ∷ (0 ∷ 1 ∷ 0 ∷ 1 ∷ []) ∷ []) (opened 65535 SEND ∷ opened 0 REQUEST ∷ [])
+    -- a send and a request, each under its own serial
+    example (table [] 7 1 0) (begin told.Send ∷ begin told.Request ∷ []) ((0 ∷ 0 ∷ 7 ∷ 8 ∷ []) ∷ (0 ∷ 1 ∷ 8 ∷ 9 ∷ []) ∷ []) (opened 7 SEND ∷ opened 8 REQUEST ∷ [])
     -- the next serial may itself be open: with 65,535 and 0 open, 1 is given and 2 is next
     ∷ example (table (opened 65535 SEND ∷ free ∷ opened 0 REQUEST ∷ []) 65535 1 0) (begin told.Send ∷ []) ((0 ∷ 1 ∷ 1 ∷ 2 ∷ []) ∷ []) (opened 65535 SEND ∷ opened 1 SEND ∷ [])
     -- a tick ages open places only, and after a resend the age is 0

@@ -1,4 +1,4 @@
--- Document 01's packets A and B, its examples 1, 2 and 3, and the readings of a packet, by computation. Assumes nothing.
+-- Document 01's packet B, and the readings of a packet, by computation. Assumes nothing.
 use Prim.Native.Nat.{ℕ}
 use mathlib.Core.Path.{_≡_, refl}
 use mathlib.Core.List.{List, [], _∷_, _++_, map}
@@ -14,7 +14,7 @@ use Rattle.octets.specs.Sums.{total}
 use Rattle.unit.specs.Objects.{textSize, endOf, walk, timely}
 use Rattle.unit.specs.Units.{judgedUnit, judgedUnder}
 use Rattle.verdict.specs.declared.Verdict.{Verdict}
-use Rattle.verdict.specs.Orders.{inOrder, refusal, good}
+use Rattle.verdict.specs.Orders.{inOrder, refusal}
 use Rattle.verdict.specs.Refusals.{CUT, START, LENGTH, END, SUM, VERSION, COMMAND, TIME, UNIT, TYPE}
 use Rattle.packet.specs.Frames.{judgedContent, judgedPacket}
 
@@ -31,17 +31,8 @@ mended at byte sum = set (set A at byte) 27 sum
 
 abbrev pub packets : List (List ℕ × Verdict)
 packets =
-    (A, good)
-    ∷ (B, good)
-    -- "1. A with sum 5E: SUM. 2. A with last byte 24 hex and sum 5E: END."
-    ∷ (set A 27 0x5E, refusal SUM 0)
-    ∷ (set (set A 29 0x24) 27 0x5E, refusal END 0)
-    -- "3. Day 31 good; 0 and 32 TIME."
-    ∷ (mended 9 31 0x6D, good)
-    ∷ (mended 9 0 0x4E, refusal TIME 0)
-    ∷ (mended 9 32 0x6E, refusal TIME 0)
     -- 29 bytes: CUT before START; 30 bytes with L 2,000: LENGTH; A and one byte more: CUT; `41 40` with L 2,000: START
-    ∷ (replicate 29 0, refusal CUT 0)
+    (replicate 29 0, refusal CUT 0)
     ∷ (set (set A 24 0xD0) 25 0x07, refusal LENGTH 0)
     ∷ (A ++ (0 ∷ []), refusal CUT 0)
     ∷ (set (set (set A 24 0xD0) 25 0x07) 0 0x41, refusal START 0)

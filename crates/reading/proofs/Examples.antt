@@ -1,4 +1,4 @@
--- Document 01's examples 4, 9 and 10, and the points of a stream's reading that are easy to get wrong, by computation. Assumes nothing.
+-- The points of a stream's reading that are easy to get wrong, by computation. Assumes nothing.
 use Prim.Native.Nat.{ℕ, zero, suc, _+_, _<_}
 use native.Mathlib.Omega.{arith}
 use mathlib.Core.Bool.{true, false}
@@ -57,20 +57,8 @@ around = take 24 A ++ 30 ∷ 0 ∷ 3 ∷ A ++ 0 ∷ 35 ∷ 35 ∷ []
 
 abbrev pub cases : List (Given × Shown)
 cases =
-    -- example 4: "L 1,024 waits; 1,025 is LENGTH on byte 26"
-    (given [] 0 (start 0 4), shows More 0 26 (start 0 4) 0)
-    ∷ (given [] 0 (start 1 4), shows Length 0 26 (drop 1 (start 1 4)) 0)
-    ∷ (given [] 0 (take 25 (start 1 4)), shows More 0 25 (take 25 (start 1 4)) 0)
-    -- example 9: "A lone 64 is held"
-    ∷ (given [] 0 (64 ∷ []), shows More 0 1 (64 ∷ []) 0)
-    -- example 10: "The END call takes 31 bytes, the next one 1"
-    ∷ (given [] 0 (0 ∷ 64 ∷ A), shows End 1 31 (take 29 A) 0)
-    ∷ (given (take 29 A) 0 (35 ∷ []), shows (Packet 30) 0 1 [] 0)
-    -- examples 1 and 2: a wrong sum, and a wrong end before a wrong sum
-    ∷ (given [] 0 (set A 27 0x5E), shows Sum 0 30 (drop 1 (set A 27 0x5E)) 0)
-    ∷ (given [] 0 (set (set A 27 0x5E) 29 0x24), shows End 0 30 (drop 1 (set (set A 27 0x5E) 29 0x24)) 0)
     -- END is decided at 30+L bytes, even where byte 29+L already differs
-    ∷ (given [] 0 (take 29 (set A 28 0)), shows More 0 29 (take 29 (set A 28 0)) 0)
+    (given [] 0 (take 29 (set A 28 0)), shows More 0 29 (take 29 (set A 28 0)) 0)
     -- nothing is skipped ahead of the next
     ∷ (given [] 0 (start 1 4 ++ A), shows Length 0 26 (drop 1 (start 1 4)) 0)
     ∷ (given (drop 1 (start 1 4)) 0 A, shows (Packet 30) 25 30 [] 0)
@@ -99,19 +87,6 @@ cases =
 pub examples : map (λ (e : Given × Shown). shown (answerTo (e .0))) cases ≡ map (λ (e : Given × Shown). e .1) cases
 unfolding called answerBy sound every padTo first found more noise hit onward stands started judgedFrame summed ended unitLength whenThere room told packetOf lowFirst total inOrder
 examples = refl
-
--- the uncut stream of example 10
-pub listed : reading 1024 0 0 (0 ∷ 64 ∷ A)
-    ≡ record {
-      heard =
-          record { event = End; skipped = 1; packet = [] }
-          ∷ record { event = Packet 30; skipped = 0; packet = A }
-          ∷ [];
-      held = [];
-      skipped = 0;
-    }
-unfolding reading readOn stands started judgedFrame summed ended unitLength whenThere told packetOf lowFirst total
-listed = refl
 
 -- the rules of a state and the room, in their order: more than 1,054 held, unused room not zero, a buffer under 1,054 where only noise would come
 abbrev emptyHold : List ℕ
