@@ -1,4 +1,4 @@
--- Document 01's example 3 and the readings of a label, by computation. Assumes nothing.
+-- The ranges of a label and its readings, by computation. Assumes nothing.
 use Prim.Native.Nat.{ℕ}
 use mathlib.Core.Path.{_≡_, refl}
 use mathlib.Core.List.{List, [], _∷_, map}
@@ -11,13 +11,13 @@ abbrev pub cases : List (List ℕ × Judgement)
 cases =
     -- the label of packet A, 8:30 on 15 June 2024
     (0 ∷ 30 ∷ 8 ∷ 15 ∷ 6 ∷ 24 ∷ [], Time)
-    -- example 3: "Day 31 good; 0 and 32 TIME"
+    -- the last day, and one past each end
     ∷ (0 ∷ 30 ∷ 8 ∷ 31 ∷ 6 ∷ 24 ∷ [], Time)
     ∷ (0 ∷ 30 ∷ 8 ∷ 0 ∷ 6 ∷ 24 ∷ [], Bad)
     ∷ (0 ∷ 30 ∷ 8 ∷ 32 ∷ 6 ∷ 24 ∷ [], Bad)
     -- each byte alone: 31 February is good
     ∷ (0 ∷ 0 ∷ 0 ∷ 31 ∷ 2 ∷ 0 ∷ [], Time)
-    -- the ends of each range, and one past each
+    -- the ends of each other range, and one past each
     ∷ (0 ∷ 0 ∷ 0 ∷ 1 ∷ 1 ∷ 0 ∷ [], Time)
     ∷ (59 ∷ 59 ∷ 23 ∷ 31 ∷ 12 ∷ 99 ∷ [], Time)
     ∷ (60 ∷ 59 ∷ 23 ∷ 31 ∷ 12 ∷ 99 ∷ [], Bad)

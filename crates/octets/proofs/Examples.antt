@@ -1,21 +1,15 @@
 -- Bytes of document 01's examples, by computation. Assumes nothing.
-use Prim.Native.Nat.{ℕ, _%_}
+use Prim.Native.Nat.{ℕ}
 use mathlib.Core.Path.{_≡_, refl}
 use mathlib.Core.List.{List, [], _∷_, map}
 use lib.IntN.{pos, negsuc}
-use lib.ListN.{take, drop}
 use Rattle.octets.specs.Numbers.{lowFirst, bytesOf, signedOf, bitsOf}
-use Rattle.octets.specs.Sums.{total}
 
--- packet A, and "Sum 93": of its bytes 3 to 27, neither byte 1 nor 2 among them
+-- packet A
 abbrev pub A : List ℕ
 A =
     0x40 ∷ 0x40 ∷ 0x05 ∷ 0x00 ∷ 0x01 ∷ 0x00 ∷ 0x00 ∷ 0x1E ∷ 0x08 ∷ 0x0F ∷ 0x06 ∷ 0x18 ∷ 0x01 ∷ 0x00 ∷ 0x00
     ∷ 0x00 ∷ 0x00 ∷ 0x00 ∷ 0x00 ∷ 0x00 ∷ 0x00 ∷ 0x00 ∷ 0x00 ∷ 0x00 ∷ 0x00 ∷ 0x00 ∷ 0x03 ∷ 0x5D ∷ 0x23 ∷ 0x23 ∷ []
-
-pub sum-of-A : total (take 25 (drop 2 A)) % 256 ≡ 93
-unfolding total
-sum-of-A = refl
 
 -- L 1,024 and 1,025 as they stand on the line; a part address of four bytes
 pub read : map lowFirst ((0 ∷ 4 ∷ []) ∷ (1 ∷ 4 ∷ []) ∷ (0 ∷ 1 ∷ 0 ∷ 0 ∷ []) ∷ (255 ∷ 255 ∷ 255 ∷ 255 ∷ []) ∷ []) ≡ 1024 ∷ 1025 ∷ 256 ∷ 4294967295 ∷ []
