@@ -1,14 +1,124 @@
--- Demand 2 of the tender, the exchanges: serials, resends and ends follow the standard. Assumes nothing.
-use Prim.Native.Nat.{ℕ}
-use mathlib.Core.Bool.{true}
+-- Demand 2 of the tender, the exchanges: "Serial numbers, resends and the end of an exchange follow the standard's retransmission rules", as
+-- document 01 states them. Every table that arises from a fresh one keeps the state's rules; of each call on such a table, what it takes, what
+-- becomes of each place and what is told of it. Assumes nothing.
+use Prim.Native.Nat.{ℕ, _+_, _<_}
+use mathlib.Core.Bool.{true, false}
 use mathlib.Core.List.{List}
-use mathlib.Core.Path.{_≡_}
-use Rattle.exchange.specs.Calls.{Call, verdictOf, run}
-use Rattle.exchange.specs.Table.{made}
-use Rattle.exchange.proofs.Kept.{never-STATE}
-use Rattle.verdict.specs.Orders.{isGood}
-use Rattle.verdict.specs.Refusals.{STATE}
+use mathlib.Core.Logic.{_↔_}
+use mathlib.Core.Path.{_≡_, refl}
+use Rattle.octets.specs.Searches.{firstFit}
+use Rattle.exchange.specs.declared.Exchanges.{Exchanges}
+use Rattle.exchange.specs.declared.Told.{Told}
+use Rattle.exchange.specs.Calls.{Call, tick, reply, verdictOf, after, run, Sound}
+use Rattle.exchange.specs.Histories.{opens, toldOf, stepBy, denies}
+use Rattle.exchange.specs.Table.{made, modeOf, begun, answered, ticking}
+use Rattle.exchange.proofs.Changes.{given-unopened, given-first, given-next, taken-free, taken-lowest, begin-others}
+use Rattle.exchange.proofs.Denials.{resent-when, failed-when, resent-place, failed-place, tick-silent}
+use Rattle.exchange.proofs.Kept.{never-broken, never-STATE}
+use Rattle.exchange.proofs.Steps.{each-step, reply-fits, reply-passes, taken-opened}
+use Rattle.exchange.proofs.Taking.{begin-taken, begin-full, reply-taken, reply-stray, tick-taken}
+use Rattle.place.specs.declared.Place.{Place}
+use Rattle.place.specs.declared.Reply.{Reply}
+use Rattle.place.specs.declared.Step.{Step}
+use Rattle.place.specs.declared.Reply.the-variants.{Confirm, Answer}
+use Rattle.place.specs.Rules.{free, opened, isOpen}
+use Rattle.place.specs.Steps.{NOTHING, CONFIRMED, ANSWERED, RESENT, FAILED, becomes, counted, ticked, fits, replied}
+use Rattle.places.specs.Rows.{placeAt, isOpenAs, upward, unopened}
+use Rattle.verdict.specs.Orders.{good, refusal, isGood}
+use Rattle.verdict.specs.Refusals.{STATE, FULL, STRAY}
 
--- "Serial numbers, resends and the end of an exchange follow the standard": from a fresh table that was not refused STATE never comes
-pub exchange-sound : (t r : ℕ) → isGood (made t r .verdict) ≡ true → (cs : List Call) (c : Call) → verdictOf (run (made t r .state) cs) c .number ≡ STATE → ⊥
-exchange-sound = never-STATE
+-- over any sequence of calls from a fresh table that was not refused the state's rules are kept, so that STATE never comes
+module _ (t r : ℕ) (fresh : isGood (made t r .verdict) ≡ true) (cs : List Call) where
+  pub exchange-kept : Sound (run (made t r .state) cs)
+  exchange-kept = never-broken t r fresh cs
+
+  pub exchange-sound : (c : Call) → verdictOf (run (made t r .state) cs) c .number ≡ STATE → ⊥
+  exchange-sound = never-STATE t r fresh cs
+
+-- SERIAL NUMBERS: "Begin, told send or request, takes the lowest free place and the first serial, from the next one upward and past 65,535 to 0,
+-- that is not open; the one after it is then next."
+module _ (x : Exchanges) (sound : Sound x) (m : Told) where
+  -- it is taken where a place is free, and refused where "16 exchanges open"
+  pub begin-where-free : (k : ℕ) → k < 16 → isOpen (placeAt (x .places) k .mode) ≡ false → begun x m .verdict ≡ good
+  begin-where-free = begin-taken x sound m
+
+  pub begin-where-full : ((k : ℕ) → k < 16 → isOpen (placeAt (x .places) k .mode) ≡ true)
+      → begun x m ≡ record { verdict = refusal FULL 0; place = 0; serial = 0; state = x }
+  begin-where-full = begin-full x sound m
+
+  module _ (taken : isGood (begun x m .verdict) ≡ true) where
+    pub serial-not-open : isOpenAs (x .places) 0 16 (begun x m .serial) ≡ false
+    serial-not-open = given-unopened x m taken
+
+    -- all from the next one up to it are open
+    pub serial-is-first : (n : ℕ) × ((begun x m .serial ≡ upward (x .next) n) × ((j : ℕ) → j < n → isOpenAs (x .places) 0 16 (upward (x .next) j) ≡ true))
+    serial-is-first = (firstFit (unopened (x .places) 0 16 (x .next)) 0 16, given-first x m taken)
+
+    pub serial-then-next : begun x m .state .next ≡ upward (begun x m .serial) 1
+    serial-then-next = given-next x m taken
+
+    pub place-was-free : isOpen (placeAt (x .places) (begun x m .place) .mode) ≡ false
+    place-was-free = taken-free x m taken
+
+    pub place-is-lowest : (k : ℕ) → k < begun x m .place → isOpen (placeAt (x .places) k .mode) ≡ true
+    place-is-lowest = taken-lowest x m taken
+
+    pub place-is-opened : placeAt (begun x m .state .places) (begun x m .place) ≡ opened (begun x m .serial) (modeOf m)
+    place-is-opened = taken-opened x sound m taken
+
+    pub begin-leaves-others : (k : ℕ) → (k ≡ begun x m .place → ⊥) → placeAt (begun x m .state .places) k ≡ placeAt (x .places) k
+    begin-leaves-others = begin-others x m taken
+
+-- THE END OF AN EXCHANGE: "Confirm fits a send of its serial, answer a request; the place is freed."
+module _ (x : Exchanges) (sound : Sound x) (s : ℕ) (w : Reply) where
+  -- a reply that fits a place answers that one, and "no open exchange fits the reply" otherwise
+  pub reply-where-fits : (k : ℕ) → k < 16 → fits s w (placeAt (x .places) k) ≡ true → (answered x s w .verdict ≡ good) × (answered x s w .place ≡ k)
+  reply-where-fits = reply-taken x sound s w
+
+  pub reply-where-stray : ((k : ℕ) → k < 16 → fits s w (placeAt (x .places) k) ≡ false)
+      → answered x s w ≡ record { verdict = refusal STRAY 0; place = 0; outcome = NOTHING; state = x }
+  reply-where-stray = reply-stray x sound s w
+
+module _ (x : Exchanges) (sound : Sound x) (k : ℕ) (here : k < 16) where
+  -- the place at k, with what a call tells of it
+  abbrev pub afterwards : Call → Step
+  afterwards c = becomes (placeAt (after x c .places) k) (toldOf x c k)
+
+  abbrev pub p : Place
+  p = placeAt (x .places) k
+
+  pub confirm-ends : (s : ℕ) → fits s Confirm p ≡ true → afterwards (reply s Confirm) ≡ becomes free CONFIRMED
+  unfolding after replied
+  confirm-ends s e = reply-fits x sound k here s Confirm e
+
+  pub answer-ends : (s : ℕ) → fits s Answer p ≡ true → afterwards (reply s Answer) ≡ becomes free ANSWERED
+  unfolding after replied
+  answer-ends s e = reply-fits x sound k here s Answer e
+
+  -- a reply that does not fit leaves the place as it was and tells nothing of it
+  pub reply-leaves : (s : ℕ) (w : Reply) → fits s w p ≡ false → afterwards (reply s w) ≡ becomes p NOTHING
+  unfolding after
+  reply-leaves s w e = reply-passes x sound k here s w e
+
+  -- "A tick adds 1 to each age; reaching T acts as deny. The tick answers all sixteen places.": it is always taken, and each place takes its step
+  pub tick-each-place : (ticking x .verdict ≡ good) × (afterwards tick ≡ ticked (x .timeout) (x .resends) p)
+  unfolding opens stepBy
+  tick-each-place = (tick-taken x sound, each-step x sound k here tick refl)
+
+  -- RESENDS: "with fewer than R resends it is resent, one resend more and age 0, else it has failed and is freed": exactly when a denial or a bad
+  -- answer that fits the place, or the tick that brings its age to T, comes
+  pub resent-exactly : (c : Call) → (toldOf x c k ≡ RESENT) ↔ ((denies (x .timeout) p c ≡ true) × (p .resends < x .resends))
+  resent-exactly = resent-when x sound k here
+
+  pub failed-exactly : (c : Call) → (toldOf x c k ≡ FAILED) ↔ ((denies (x .timeout) p c ≡ true) × (p .resends ≡ x .resends))
+  failed-exactly = failed-when x sound k here
+
+  pub resent-becomes : (c : Call) → toldOf x c k ≡ RESENT → placeAt (after x c .places) k ≡ counted (p .resends + 1) 0 p
+  resent-becomes = resent-place x sound k here
+
+  pub failed-becomes : (c : Call) → toldOf x c k ≡ FAILED → placeAt (after x c .places) k ≡ free
+  failed-becomes = failed-place x sound k here
+
+  -- any other tick is silent, and an open place is one tick older
+  pub tick-else-ages : isOpen (p .mode) ≡ true → denies (x .timeout) p tick ≡ false → afterwards tick ≡ becomes (counted (p .resends) (p .age + 1) p) NOTHING
+  tick-else-ages = tick-silent x sound k here

@@ -81,7 +81,7 @@ module _ (x : Exchanges) (m : Told) (e : isGood (begun x m .verdict) ≡ true) w
   given-next = ap (λ (y : Exchanges). y .next) begun-state
 
   -- the place taken was free, and all below it are open
-  begun-inside : begun x m .place < 16
+  pub begun-inside : begun x m .place < 16
   unfolding begun
   begun-inside = found-place x e
 

@@ -212,13 +212,17 @@ unfolding run
 run-sound x sound [] = sound
 run-sound x sound (c ∷ cs) = run-sound (after x c) (well x sound c .sound) cs
 
--- from a fresh table that was not refused STATE never comes
-pub never-STATE : (t r : ℕ) → isGood (made t r .verdict) ≡ true → (cs : List Call) (c : Call) → verdictOf (run (made t r .state) cs) c .number ≡ STATE → ⊥
-never-STATE t r g cs c = well (run (made t r .state) cs) (run-sound (made t r .state) start cs) c .other
+-- a fresh table that was not refused keeps the rules, and so does every table after it
+pub made-sound : (t r : ℕ) → isGood (made t r .verdict) ≡ true → Sound (made t r .state)
+made-sound t r g = by-test (inRange t r) refl
   where
     by-test : (b : Bool) → inRange t r ≡ b → Sound (made t r .state)
     by-test true e = subst⁻¹ (λ (y : Made). Sound (y .state)) (made-good t r e) (fresh-sound t r e)
     by-test false e = absurd (false≢true (sym (ap (λ (y : Made). isGood (y .verdict)) (made-refused t r e)) ∙ g))
 
-    start : Sound (made t r .state)
-    start = by-test (inRange t r) refl
+pub never-broken : (t r : ℕ) → isGood (made t r .verdict) ≡ true → (cs : List Call) → Sound (run (made t r .state) cs)
+never-broken t r g = run-sound (made t r .state) (made-sound t r g)
+
+-- so STATE never comes
+pub never-STATE : (t r : ℕ) → isGood (made t r .verdict) ≡ true → (cs : List Call) (c : Call) → verdictOf (run (made t r .state) cs) c .number ≡ STATE → ⊥
+never-STATE t r g cs c = well (run (made t r .state) cs) (never-broken t r g cs) c .other

@@ -1,3 +1,3 @@
-mod Answers
+pub mod Answers
 pub mod Kept
 pub mod Codes
