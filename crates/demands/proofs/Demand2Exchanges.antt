@@ -1,22 +1,23 @@
 -- Demand 2 of the tender, the exchanges: "Serial numbers, resends and the end of an exchange follow the standard's retransmission rules", as
 -- document 01 states them. Every table that arises from a fresh one keeps the state's rules; of each call on such a table, what it takes, what
 -- becomes of each place and what is told of it. Assumes nothing.
-use Prim.Native.Nat.{ℕ, _+_, _<_}
+use Prim.Native.Nat.{ℕ, _+_, _≤_, _<_}
 use mathlib.Core.Bool.{true, false}
-use mathlib.Core.List.{List}
+use mathlib.Core.List.{List, []}
 use mathlib.Core.Logic.{_↔_}
 use mathlib.Core.Path.{_≡_, refl}
 use Rattle.octets.specs.Searches.{firstFit}
 use Rattle.exchange.specs.declared.Exchanges.{Exchanges}
 use Rattle.exchange.specs.declared.Told.{Told}
 use Rattle.exchange.specs.Calls.{Call, tick, reply, verdictOf, after, run, Sound}
-use Rattle.exchange.specs.Histories.{opens, toldOf, stepBy, denies}
-use Rattle.exchange.specs.Table.{made, modeOf, begun, answered, ticking}
+use Rattle.exchange.specs.Histories.{opens, toldOf, stepBy, denies, Seen, history, sends, since, count}
+use Rattle.exchange.specs.Table.{legal, made, modeOf, begun, answered, ticking}
 use Rattle.exchange.proofs.Changes.{given-unopened, given-first, given-next, taken-free, taken-lowest, begin-others}
 use Rattle.exchange.proofs.Denials.{resent-when, failed-when, resent-place, failed-place, tick-silent}
+use Rattle.exchange.proofs.Histories.{accounted}
 use Rattle.exchange.proofs.Kept.{never-broken, never-STATE}
 use Rattle.exchange.proofs.Steps.{each-step, reply-fits, reply-passes, taken-opened}
-use Rattle.exchange.proofs.Taking.{begin-taken, begin-full, reply-taken, reply-stray, tick-taken}
+use Rattle.exchange.proofs.Taking.{broken-refused, begin-taken, begin-full, reply-taken, reply-stray, tick-taken}
 use Rattle.place.specs.declared.Place.{Place}
 use Rattle.place.specs.declared.Reply.{Reply}
 use Rattle.place.specs.declared.Step.{Step}
@@ -34,6 +35,10 @@ module _ (t r : ℕ) (fresh : isGood (made t r .verdict) ≡ true) (cs : List Ca
 
   pub exchange-sound : (c : Call) → verdictOf (run (made t r .state) cs) c .number ≡ STATE → ⊥
   exchange-sound = never-STATE t r fresh cs
+
+-- a table that breaks them, as no call hands one back, is refused by every call
+pub exchange-broken : (x : Exchanges) → legal x ≡ false → (c : Call) → verdictOf x c ≡ refusal STATE 0
+exchange-broken = broken-refused
 
 -- SERIAL NUMBERS: "Begin, told send or request, takes the lowest free place and the first serial, from the next one upward and past 65,535 to 0,
 -- that is not open; the one after it is then next."
@@ -81,10 +86,10 @@ module _ (x : Exchanges) (sound : Sound x) (s : ℕ) (w : Reply) where
 
 module _ (x : Exchanges) (sound : Sound x) (k : ℕ) (here : k < 16) where
   -- the place at k, with what a call tells of it
-  abbrev pub afterwards : Call → Step
+  abbrev afterwards : Call → Step
   afterwards c = becomes (placeAt (after x c .places) k) (toldOf x c k)
 
-  abbrev pub p : Place
+  abbrev p : Place
   p = placeAt (x .places) k
 
   pub confirm-ends : (s : ℕ) → fits s Confirm p ≡ true → afterwards (reply s Confirm) ≡ becomes free CONFIRMED
@@ -122,3 +127,22 @@ module _ (x : Exchanges) (sound : Sound x) (k : ℕ) (here : k < 16) where
   -- any other tick is silent, and an open place is one tick older
   pub tick-else-ages : isOpen (p .mode) ≡ true → denies (x .timeout) p tick ≡ false → afterwards tick ≡ becomes (counted (p .resends) (p .age + 1) p) NOTHING
   tick-else-ages = tick-silent x sound k here
+
+-- AGE AND RESENDS, over any sequence of calls from a fresh table that was not refused, refused calls among them: a place that is open was begun, its
+-- age is the number of ticks since its last sending (its beginning, or the last resend told of it), and its resends are those told since it was begun
+module _ (t r : ℕ) (fresh : isGood (made t r .verdict) ≡ true) (cs : List Call) (k : ℕ) (here : k < 16) where
+  abbrev left : Place
+  left = placeAt (run (made t r .state) cs .places) k
+
+  abbrev saw : List Seen
+  saw = history k (made t r .state) cs []
+
+  module _ (is-open : isOpen (left .mode) ≡ true) where
+    pub open-was-begun : 1 ≤ count (λ e. e .begins) saw
+    open-was-begun = accounted k here t r fresh cs is-open .begun
+
+    pub age-is-ticks : left .age ≡ count (λ e. e .ticks) (since sends saw)
+    age-is-ticks = accounted k here t r fresh cs is-open .aged
+
+    pub resends-are-told : left .resends ≡ count (λ e. e .resends) (since (λ e. e .begins) saw)
+    resends-are-told = accounted k here t r fresh cs is-open .resent

@@ -1,13 +1,12 @@
 -- When a place is told resent and failed: exactly when a call denies it, by the resends that were made. By the rule for one place. Assumes nothing.
 use Prim.Native.Nat.{ℕ, _+_, _≤_, _<_}
 use native.Mathlib.Omega.{arith}
-use mathlib.Core.Bool.{Bool, true, false, cond, true≢false, false≢true, and-eq-true-iff}
+use mathlib.Core.Bool.{Bool, true, false, cond, false≢true, and-eq-true-iff}
 use mathlib.Core.Logic.{_↔_}
 use mathlib.Core.Path.{_≡_, refl, sym, ap, subst⁻¹, _∙_}
 use borrow.Author.Tests.{ltb-true, ltb-false, lt-ltb, le-ltb, eqb-true, eqb-false}
 use lib.Dec.{ltb, eqb}
 use Rattle.place.specs.declared.Place.{Place}
-use Rattle.place.specs.declared.Reply.{Reply}
 use Rattle.place.specs.declared.Reply.the-variants.{Confirm, Answer, Deny, BadAnswer}
 use Rattle.place.specs.declared.Step.{Step}
 use Rattle.place.specs.Rules.{free, isOpen, keeps}

@@ -5,4 +5,5 @@ pub mod Changes
 pub mod Steps
 pub mod Taking
 pub mod Denials
+pub mod Histories
 pub mod Examples

@@ -1,12 +1,12 @@
--- When a call on a table that keeps its rules is taken, and when it is refused: FULL, STRAY, and no other refusal. Assumes nothing.
-use Prim.Native.Nat.{ℕ, _≤_, _<_}
+-- When a call is taken and when it is refused: STATE on a table that breaks the rules, on one that keeps them FULL or STRAY. Assumes nothing.
+use Prim.Native.Nat.{ℕ, _<_}
 use native.Mathlib.Omega.{arith}
 use mathlib.Core.Bool.{Bool, true, false, true≢false}
-use mathlib.Core.Path.{_≡_, refl, sym, ap, _∙_}
+use mathlib.Core.Path.{_≡_, refl, ap, _∙_}
 use borrow.Author.Tests.{ltb-true, ltb-false}
 use lib.Dec.{ltb}
 use Rattle.octets.proofs.Searches.{first-none, first-absent}
-use Rattle.verdict.specs.Refusals.{FULL, STRAY}
+use Rattle.verdict.specs.Refusals.{STATE, FULL, STRAY}
 use Rattle.verdict.specs.Orders.{good, refusal, isGood}
 use Rattle.place.specs.declared.Reply.{Reply}
 use Rattle.place.specs.Rules.{isOpen}
@@ -15,12 +15,11 @@ use Rattle.places.specs.Rows.{placeAt, freeAt, lowestFree, fitsAt, fitting}
 use Rattle.exchange.specs.declared.Exchanges.{Exchanges}
 use Rattle.exchange.specs.declared.Told.{Told}
 use Rattle.exchange.specs.declared.Found.{Found}
-use Rattle.exchange.specs.declared.Begun.{Begun}
 use Rattle.exchange.specs.declared.Replied.{Replied}
 use Rattle.exchange.specs.declared.Ticked.{Ticked}
-use Rattle.exchange.specs.Table.{legal, found, begun, answered, ticking}
-use Rattle.exchange.specs.Calls.{Sound}
-use Rattle.exchange.proofs.Answers.{found-full, found-good, begun-refused, begun-good, answered-stray, answered-good, stepped, ticking-good}
+use Rattle.exchange.specs.Table.{legal, begun, answered, ticking}
+use Rattle.exchange.specs.Calls.{Call, begin, reply, tick, verdictOf, Sound}
+use Rattle.exchange.proofs.Answers.{found-state, found-full, found-good, begun-refused, answered-state, answered-stray, answered-good, ticking-state, ticking-good}
 use Rattle.exchange.proofs.Steps.{fitting-is}
 
 module _ (x : Exchanges) (sound : Sound x) where
@@ -63,3 +62,10 @@ module _ (x : Exchanges) (sound : Sound x) where
   -- a tick, always
   pub tick-taken : ticking x .verdict ≡ good
   tick-taken = ap (λ (y : Ticked). y .verdict) (ticking-good x (sound .kept))
+
+-- any call on a table that breaks the rules
+pub broken-refused : (x : Exchanges) → legal x ≡ false → (c : Call) → verdictOf x c ≡ refusal STATE 0
+unfolding verdictOf begun
+broken-refused x e (begin m) = ap (λ (f : Found). f .verdict) (found-state x e)
+broken-refused x e (reply s w) = ap (λ (y : Replied). y .verdict) (answered-state x s w e)
+broken-refused x e tick = ap (λ (y : Ticked). y .verdict) (ticking-state x e)
