@@ -5,14 +5,18 @@ use Prim.Native.Nat.{ℕ, _+_, _≤_, _<_}
 use mathlib.Core.Bool.{true, false}
 use mathlib.Core.List.{List, []}
 use mathlib.Core.Logic.{_↔_}
-use mathlib.Core.Path.{_≡_, refl}
+use mathlib.Core.Path.{_≡_, refl, ap}
+use borrow.Author.Tests.{le-leb}
+use lib.ListN.{getD}
 use Rattle.octets.specs.Searches.{firstFit}
 use Rattle.exchange.specs.declared.Exchanges.{Exchanges}
 use Rattle.exchange.specs.declared.Told.{Told}
 use Rattle.exchange.specs.Calls.{Call, tick, reply, verdictOf, after, run, Sound}
 use Rattle.exchange.specs.Histories.{opens, toldOf, stepBy, denies, Seen, history, sends, since, count}
-use Rattle.exchange.specs.Table.{legal, made, modeOf, begun, answered, ticking}
-use Rattle.exchange.proofs.Changes.{given-unopened, given-first, given-next, taken-free, taken-lowest, begin-others}
+use Rattle.exchange.specs.Table.{inRange, legal, blank, made, placed, modeOf, begun, answered, ticking}
+use Rattle.exchange.proofs.Answers.{made-refused, made-good}
+use Rattle.exchange.proofs.Changes.{given-unopened, given-first, given-next, begun-inside, taken-free, taken-lowest, begin-others}
+use Rattle.exchange.proofs.Changes.{reply-rest, tick-rest, tick-tells, settings-made}
 use Rattle.exchange.proofs.Denials.{resent-when, failed-when, resent-place, failed-place, tick-silent}
 use Rattle.exchange.proofs.Histories.{accounted}
 use Rattle.exchange.proofs.Kept.{never-broken, never-STATE}
@@ -24,12 +28,23 @@ use Rattle.place.specs.declared.Step.{Step}
 use Rattle.place.specs.declared.Reply.the-variants.{Confirm, Answer}
 use Rattle.place.specs.Rules.{free, opened, isOpen}
 use Rattle.place.specs.Steps.{NOTHING, CONFIRMED, ANSWERED, RESENT, FAILED, becomes, counted, ticked, fits, replied}
-use Rattle.places.specs.Rows.{placeAt, isOpenAs, upward, unopened}
+use Rattle.places.specs.declared.Report.{Report}
+use Rattle.places.specs.Rows.{placeAt, isOpenAs, upward, unopened, nothing}
 use Rattle.verdict.specs.Orders.{good, refusal, isGood}
-use Rattle.verdict.specs.Refusals.{STATE, FULL, STRAY}
+use Rattle.verdict.specs.Refusals.{STATE, SETTING, FULL, STRAY}
 
--- over any sequence of calls from a fresh table that was not refused the state's rules are kept, so that STATE never comes
+-- "Timeout T is 1 to 10 ticks, resends R 0 to 9.", "A fresh table starts at serial 0": it is made with any such T and R, and with no others
+pub fresh-in-range : (t r : ℕ) → 1 ≤ t → t ≤ 10 → r ≤ 9 → made t r ≡ record { verdict = good; state = blank t r }
+fresh-in-range t r a b c = made-good t r (simp (le-leb 1 t a, le-leb t 10 b, le-leb r 9 c))
+
+pub fresh-out-of-range : (t r : ℕ) → inRange t r ≡ false → made t r ≡ record { verdict = refusal SETTING 0; state = blank 0 0 }
+fresh-out-of-range = made-refused
+
+-- over any sequence of calls from a fresh table that was not refused T and R stay, and the state's rules are kept, so that STATE never comes
 module _ (t r : ℕ) (fresh : isGood (made t r .verdict) ≡ true) (cs : List Call) where
+  pub exchange-settings : (run (made t r .state) cs .timeout ≡ t) × (run (made t r .state) cs .resends ≡ r)
+  exchange-settings = settings-made t r fresh cs
+
   pub exchange-kept : Sound (run (made t r .state) cs)
   exchange-kept = never-broken t r fresh cs
 
@@ -62,6 +77,9 @@ module _ (x : Exchanges) (sound : Sound x) (m : Told) where
     pub serial-then-next : begun x m .state .next ≡ upward (begun x m .serial) 1
     serial-then-next = given-next x m taken
 
+    pub place-is-inside : begun x m .place < 16
+    place-is-inside = begun-inside x m taken
+
     pub place-was-free : isOpen (placeAt (x .places) (begun x m .place) .mode) ≡ false
     place-was-free = taken-free x m taken
 
@@ -83,6 +101,10 @@ module _ (x : Exchanges) (sound : Sound x) (s : ℕ) (w : Reply) where
   pub reply-where-stray : ((k : ℕ) → k < 16 → fits s w (placeAt (x .places) k) ≡ false)
       → answered x s w ≡ record { verdict = refusal STRAY 0; place = 0; outcome = NOTHING; state = x }
   reply-where-stray = reply-stray x sound s w
+
+  -- and nothing beside the places changes
+  pub reply-leaves-rest : answered x s w .state ≡ placed x (answered x s w .state .places)
+  reply-leaves-rest = reply-rest x s w
 
 module _ (x : Exchanges) (sound : Sound x) (k : ℕ) (here : k < 16) where
   -- the place at k, with what a call tells of it
@@ -109,6 +131,13 @@ module _ (x : Exchanges) (sound : Sound x) (k : ℕ) (here : k < 16) where
   pub tick-each-place : (ticking x .verdict ≡ good) × (afterwards tick ≡ ticked (x .timeout) (x .resends) p)
   unfolding opens stepBy
   tick-each-place = (tick-taken x sound, each-step x sound k here tick refl)
+
+  -- with its serial, since a failed place is freed
+  pub tick-tells-serial : getD (ticking x .reports) k nothing .serial ≡ p .serial
+  tick-tells-serial = ap (λ (y : Report). y .serial) (tick-tells x (ap isGood (tick-taken x sound)) k)
+
+  pub tick-leaves-rest : ticking x .state ≡ placed x (ticking x .state .places)
+  tick-leaves-rest = tick-rest x
 
   -- RESENDS: "with fewer than R resends it is resent, one resend more and age 0, else it has failed and is freed": exactly when a denial or a bad
   -- answer that fits the place, or the tick that brings its age to T, comes

@@ -1,16 +1,17 @@
 -- The tender's condition on the device table: one that is not understood to its last byte is refused whole. Assumes nothing.
-use Prim.Native.Nat.{ℕ, _≤_, _<_}
+use Prim.Native.Nat.{ℕ, _+_, _≤_, _<_}
 use mathlib.Core.Bool.{Bool, true, false}
 use mathlib.Core.List.{List, [], _++_}
+use mathlib.Core.Logic.{_↔_}
 use mathlib.Core.Path.{_≡_, refl, ap, _∙_}
 use lib.ListN.{length, take}
-use Rattle.devices.specs.Sections.{countAt, keyAt, entryOf}
+use Rattle.devices.specs.Sections.{countAt, entryAt, keyAt, entryOf}
 use Rattle.devices.specs.Tables.{ofSystems, ofParts, partsFrom, systemOf, judged as judgedTable, refusedBy, judgement, foundPlace}
 use Rattle.devices.proofs.Good.{Sound, good-sound, sound-good}
-use Rattle.devices.proofs.Theorems.{listed-has, refused-first, refused-empty, longer-refused, cut-refused}
+use Rattle.devices.proofs.Theorems.{listed-has, every-found, none-unlisted, unlisted-none, refused-first, refused-empty, longer-refused, cut-refused}
 use Rattle.verdict.specs.declared.Part.{Part}
 use Rattle.verdict.specs.Orders.{refusal, good, isGood, noPart, partIn}
-use Rattle.verdict.specs.Refusals.{TAIL, CUT}
+use Rattle.verdict.specs.Refusals.{CUT, TAIL, UNLISTED}
 
 -- what is understood to its last byte, `Sound`: both counts there and within their limits, every entry there and above the one before, every
 -- part's system listed, and the last entry's end the table's; these tables are good, and no others
@@ -50,3 +51,16 @@ table-longer = longer-refused
 
 pub table-cut : (t : List ℕ) (n : ℕ) → isGood (judgedTable ofSystems ofParts t) ≡ true → n < length t → judgedTable ofSystems ofParts (take n t) ≡ refusal CUT 0
 table-cut = cut-refused
+
+-- what is found in a good table: "Finding a part judges the table first, then hands back the description as a part of it, or UNLISTED exactly when no
+-- entry has the seven bytes."
+module _ (t : List ℕ) (g : isGood (judgedTable ofSystems ofParts t) ≡ true) where
+  abbrev from : ℕ
+  from = partsFrom ofSystems t
+
+  pub table-found : (k : ℕ) → k < countAt t from
+      → foundPlace ofSystems ofParts t (keyAt ofParts t from k) ≡ record { verdict = good; from = entryAt ofParts from k + 7; to = entryAt ofParts from k + 38 }
+  table-found = every-found t g
+
+  pub table-unlisted : (x : List ℕ) → (foundPlace ofSystems ofParts t x ≡ noPart (refusal UNLISTED 0)) ↔ ((k : ℕ) → k < countAt t from → keyAt ofParts t from k ≡ x → ⊥)
+  table-unlisted x = (unlisted-none t x g, none-unlisted t x g)

@@ -1,9 +1,9 @@
--- What each call changes and what it leaves: a refused call nothing, a beginning and a reply one place, a tick each place by the rule for one.
--- By the calls' definitions. Assumes nothing.
+-- What each call changes and what it leaves: a refused call nothing, a beginning and a reply one place, a tick each place by the rule for one, and none
+-- the settings. By the calls' definitions. Assumes nothing.
 use Prim.Native.Nat.{ℕ, _<_}
 use native.Mathlib.Omega.{arith}
 use mathlib.Core.Bool.{Bool, true, false, cond}
-use mathlib.Core.List.{List}
+use mathlib.Core.List.{List, [], _∷_}
 use mathlib.Core.Path.{_≡_, refl, ap, subst, subst⁻¹, _∙_}
 use borrow.Author.Tests.{not-true, not-false}
 use lib.ListN.{getD, set, replicate}
@@ -20,8 +20,8 @@ use Rattle.exchange.specs.declared.Begun.{Begun}
 use Rattle.exchange.specs.declared.Replied.{Replied}
 use Rattle.exchange.specs.declared.Ticked.{Ticked}
 use Rattle.places.specs.Rows.{placeAt, freeAt, lowestFree, isOpenAs, upward, unopened, serialFor, fitting, report, nothing, swept}
-use Rattle.exchange.specs.Table.{found, placed, modeOf, entered, begun, replyTests, answered, ticking}
-use Rattle.exchange.specs.Calls.{Call, begin, reply, tick, verdictOf, after}
+use Rattle.exchange.specs.Table.{blank, made, found, placed, modeOf, entered, begun, replyTests, answered, ticking}
+use Rattle.exchange.specs.Calls.{Call, begin, reply, tick, verdictOf, after, run}
 use Rattle.places.proofs.Serials.{serial-unopened, serial-first}
 use Rattle.places.proofs.Rules.{unchanged}
 use Rattle.exchange.proofs.Answers.{found-place}
@@ -131,6 +131,41 @@ reply-rest x s w = rest x (isGood (inOrder (replyTests x s w) good)) _
 pub tick-rest : (x : Exchanges) → ticking x .state ≡ placed x (ticking x .state .places)
 unfolding ticking
 tick-rest x = rest x (isGood (ticking x .verdict)) _
+
+-- no call changes T or R
+abbrev Settings : Exchanges → ℕ → ℕ → Type 0
+Settings x t r = (x .timeout ≡ t) × (x .resends ≡ r)
+
+begin-set : (x : Exchanges) (m : Told) → Settings (begun x m .state) (x .timeout) (x .resends)
+unfolding begun
+begin-set x m = by-test (isGood (found x .verdict))
+  where
+    by-test : (b : Bool) → Settings (cond b (entered x (found x .place) (found x .serial) (modeOf m)) x) (x .timeout) (x .resends)
+    by-test true = (refl, refl)
+    by-test false = (refl, refl)
+
+settings-stay : (x : Exchanges) (c : Call) → Settings (after x c) (x .timeout) (x .resends)
+unfolding after
+settings-stay x (begin m) = begin-set x m
+settings-stay x (reply s w) = (ap (λ (y : Exchanges). y .timeout) (reply-rest x s w), ap (λ (y : Exchanges). y .resends) (reply-rest x s w))
+settings-stay x tick = (ap (λ (y : Exchanges). y .timeout) (tick-rest x), ap (λ (y : Exchanges). y .resends) (tick-rest x))
+
+settings-run : (x : Exchanges) (cs : List Call) → Settings (run x cs) (x .timeout) (x .resends)
+unfolding run
+settings-run x [] = (refl, refl)
+settings-run x (c ∷ cs) =
+    let rest = settings-run (after x c) cs in
+    let one = settings-stay x c in
+    (rest .0 ∙ one .0, rest .1 ∙ one .1)
+
+-- so they stay those with which the table was made
+pub settings-made : (t r : ℕ) → isGood (made t r .verdict) ≡ true → (cs : List Call)
+    → (run (made t r .state) cs .timeout ≡ t) × (run (made t r .state) cs .resends ≡ r)
+unfolding made
+settings-made t r g cs =
+    let start : made t r .state ≡ blank t r = simp g in
+    let rest = settings-run (made t r .state) cs in
+    (rest .0 ∙ ap (λ (y : Exchanges). y .timeout) start, rest .1 ∙ ap (λ (y : Exchanges). y .resends) start)
 
 -- a tick makes of each place, and tells of it, what the rule for one place says
 pub tick-each : (x : Exchanges) → isGood (ticking x .verdict) ≡ true → (k : ℕ)
