@@ -1,29 +1,24 @@
--- One call: which of its three answers it is, that it keeps the rules of a state and never overflows the hold, and how the stream goes on
--- from it. Assumes nothing.
+-- One call: by which refusal it is refused, and that an answer keeps the rules of a state and never overflows the hold; that a sound state with
+-- room is answered is the first step of demand 3 (Demand). Assumes nothing.
 use Prim.Native.Nat.{ℕ, _+_, _-_, _≤_, _<_, min}
 use native.Mathlib.Omega.{arith}
-use mathlib.Core.Bool.{Bool, true, false, _&&_, and-eq-true-iff, true≢false, false≢true}
+use mathlib.Core.Bool.{true, false, _&&_, and-eq-true-iff}
 use mathlib.Core.List.{List, [], _++_, append-assoc}
 use mathlib.Core.Logic.{_⊎_, ⊎-elim}
-use mathlib.Core.Path.{_≡_, refl, sym, ap, subst, _∙_}
-use borrow.Author.Tests.{le-leb, lt-leb, leb-true, leb-false}
+use mathlib.Core.Path.{_≡_, refl, sym, ap, _∙_}
+use borrow.Author.Tests.{le-leb, lt-leb, leb-true}
 use lib.Dec.{leb}
 use lib.ListN.{length, take, drop, length-append, length-take, length-drop, take-append-drop}
-use lib.Seq.{take-append-add, drop-append-le, length-take-le}
+use lib.Seq.{drop-append-le, length-take-le}
 use Rattle.frame.specs.Frame.{room}
 use Rattle.verdict.specs.declared.Verdict.{Verdict}
 use Rattle.verdict.specs.Refusals.{STATE, ROOM}
 use Rattle.verdict.specs.Orders.{inOrder, refusal, good, isGood}
-use Rattle.verdict.proofs.Order.{passed, failed, all-passed}
-use Rattle.reading.specs.declared.Event.the-variants.{More}
+use Rattle.verdict.proofs.Order.{passed, failed}
 use Rattle.reading.specs.declared.Step.{Step}
-use Rattle.reading.specs.Values.{asks, packetOf}
-use Rattle.reading.specs.Finding.{first}
 use Rattle.octets.specs.Searches.{allZero}
-use Rattle.reading.specs.Calls.{State, Answer, fresh, heldBytes, sound, callTests, restOf, answerBy, answered, judgedCall, refusedCall, called}
-use Rattle.reading.specs.Offers.{heardIn}
-use Rattle.reading.proofs.Worths.{worth, packet-kept, packet-copied}
-use Rattle.reading.proofs.Found.{Asked, Gave, either, first-early, heardAt}
+use Rattle.reading.specs.Calls.{State, fresh, heldBytes, sound, callTests, restOf, answerBy, refusedCall, called}
+use Rattle.reading.proofs.Found.{Asked, Gave}
 use Rattle.reading.proofs.Pads.{pad-long, pad-front, pad-behind}
 
 -- a row of the room's length whose state keeps the rules
@@ -43,7 +38,7 @@ pub are-rules : (M : ℕ) (st : State) → st .held ≤ room M → st .skipped �
 unfolding sound
 are-rules M st h s z = simp (le-leb (st .held) (room M) h, le-leb (st .skipped) 65534 s, z)
 
--- the three answers of a call
+-- the refusals of a call
 module _ (M : ℕ) (st : State) (piece out : List ℕ) where
   pub call-refused : (v : Verdict) → inOrder (callTests M st out) good ≡ v → isGood v ≡ false
       → called M st piece out ≡ refusedCall (v .number) st out
@@ -55,12 +50,6 @@ module _ (M : ℕ) (st : State) (piece out : List ℕ) where
 
   pub call-room : sound M st ≡ true → length out < room M → called M st piece out ≡ refusedCall ROOM st out
   call-room s h = call-refused (refusal ROOM 0) (passed _ _ good s ∙ failed _ _ good (lt-leb (room M) (length out) h)) refl
-
-  pub call-good : sound M st ≡ true → room M ≤ length out → called M st piece out ≡ answered M st piece out
-  unfolding called
-  call-good s h =
-      ap (λ (v : Verdict). judgedCall v (answered M st piece out) (λ n. refusedCall n st out))
-      (all-passed (callTests M st out) good (s, (le-leb (room M) (length out) h, tt)))
 
 -- held bytes are as many as the state says
 pub held-long : (M : ℕ) (st : State) → Good M st → length (heldBytes st) ≡ st .held
@@ -115,90 +104,6 @@ module _ (M s : ℕ) (h piece : List ℕ) (f : Step) (few : length h ≤ room M)
   pub held-by : (out : List ℕ) → heldBytes (answerBy M f h piece out .state) ≡ restOf f h piece
   unfolding answerBy
   held-by out = pad-front (room M) (restOf f h piece)
-
--- a good state and a buffer with room
-module _ (M : ℕ) (st : State) (piece out : List ℕ) (g : Good M st) (room-there : room M ≤ length out) where
-  -- what is found first in the held bytes and the piece
-  abbrev pub finds : Step
-  finds = first M (st .skipped) (heldBytes st ++ piece)
-
-  pub finds-either : Asked M (st .skipped) (heldBytes st ++ piece) (first M (st .skipped) (heldBytes st ++ piece))
-      ⊎ Gave M (st .skipped) (heldBytes st ++ piece) (first M (st .skipped) (heldBytes st ++ piece))
-  finds-either = either M (st .skipped) (heldBytes st ++ piece) (omega (arith, rules-are M st (g .rules)))
-
-  pub few-held : length (heldBytes st) ≤ room M
-  few-held = omega (arith, held-long M st g, rules-are M st (g .rules))
-
-  pub answer-is : called M st piece out ≡ answered M st piece out
-  answer-is = call-good M st piece out (g .rules) room-there
-
-  -- asking for more means that the whole piece was taken
-  pub more-all : asks (called M st piece out .event) ≡ true → called M st piece out .taken ≡ length piece
-  unfolding answerBy
-  more-all a =
-      ⊎-elim
-      (λ (q : Asked M (st .skipped) (heldBytes st ++ piece) finds).
-      ap (λ (r : Answer). r .taken) answer-is
-      ∙ omega (arith, q .all, length-append (heldBytes st) piece))
-      (λ (q : Gave M (st .skipped) (heldBytes st ++ piece) finds).
-      absurd (false≢true (sym (q .gives) ∙ sym (ap (λ (r : Answer). asks (r .event)) answer-is) ∙ a)))
-      finds-either
-
-  -- no byte is taken beyond the one that decides: on fewer bytes of the piece more is asked for
-  pub none-too-many : asks (called M st piece out .event) ≡ false → (n : ℕ) → n < called M st piece out .taken
-      → called M st (take n piece) out .event ≡ More
-  unfolding answerBy
-  none-too-many a n k =
-      let gave : asks (finds .event) ≡ false = sym (ap (λ (r : Answer). asks (r .event)) answer-is) ∙ a in
-      let fewer : length (heldBytes st) + n < finds .looked = omega (arith, ap (λ (r : Answer). r .taken) answer-is) in
-      ap (λ (r : Answer). r .event) (call-good M st (take n piece) out (g .rules) room-there)
-      ∙ ap (λ (xs : List ℕ). first M (st .skipped) xs .event) (sym (take-append-add (heldBytes st) piece n))
-      ∙ first-early M (st .skipped) (length (heldBytes st) + n) (heldBytes st ++ piece) (omega (arith, rules-are M st (g .rules))) gave fewer
-
-  -- the stream goes on from the new state and what was not taken
-  pub call-goes-on : (more : List ℕ) → drop (finds .next) ((heldBytes st ++ piece) ++ more)
-      ≡ (heldBytes (called M st piece out .state) ++ drop (called M st piece out .taken) piece) ++ more
-  unfolding answerBy
-  call-goes-on more =
-      let here = heldBytes st ++ piece in
-      let inside : finds .next ≤ length here =
-      ⊎-elim (λ (q : Asked M (st .skipped) here finds). omega (arith, q .stays, q .inside)) (λ (q : Gave M (st .skipped) here finds). omega (arith, q .seen, q .there)) finds-either in
-      drop-append-le (finds .next) here more inside
-      ∙ ap (λ (l : List ℕ). l ++ more)
-      (sym (goes-on M (st .skipped) (heldBytes st) piece finds few-held finds-either)
-      ∙ ap (λ (l : List ℕ). l ++ drop (finds .looked - length (heldBytes st)) piece)
-      (sym (held-by M (st .skipped) (heldBytes st) piece finds few-held finds-either out))
-      ∙ ap (λ (r : Answer). heldBytes (r .state) ++ drop (r .taken) piece) (sym answer-is))
-
-  -- what is heard is what was found, its packet whole in the buffer
-  pub call-heard : asks (called M st piece out .event) ≡ false → (more : List ℕ) → heardAt finds ((heldBytes st ++ piece) ++ more) ≡ heardIn (called M st piece out)
-  unfolding answerBy asks
-  call-heard a more =
-      let here = heldBytes st ++ piece in
-      let gave : asks (finds .event) ≡ false = sym (ap (λ (r : Answer). asks (r .event)) answer-is) ∙ a in
-      let whole : (finds .at ≤ length here) × (worth (finds .event) ≤ length (drop (finds .at) here)) =
-      ⊎-elim
-      (λ (q : Asked M (st .skipped) here finds). absurd (true≢false (ap asks (sym (q .event)) ∙ gave)))
-      (λ (q : Gave M (st .skipped) here finds). (omega (arith, q .stood, q .there), omega (arith, q .stood, q .there, length-drop (finds .at) here)))
-      finds-either in
-      let p = packetOf (finds .event) (drop (finds .at) here) in
-      ap (λ (b : List ℕ). record { event = finds .event; skipped = finds .carried; packet = b })
-      (ap (packetOf (finds .event)) (drop-append-le (finds .at) here more (whole .0))
-      ∙ packet-kept (finds .event) (drop (finds .at) here) more (whole .1)
-      ∙ sym (packet-copied (finds .event) (drop (finds .at) here) (drop (length p) out) (whole .1)))
-      ∙ ap heardIn (sym answer-is)
-
--- every state that a call leaves keeps the rules, refused calls too
-pub call-keeps : (M : ℕ) (st : State) (piece out : List ℕ) → Good M st → Good M (called M st piece out .state)
-call-keeps M st piece out g = by-test (leb (room M) (length out)) refl
-  where
-    by-test : (t : Bool) → leb (room M) (length out) ≡ t → Good M (called M st piece out .state)
-    by-test true e =
-        let r : room M ≤ length out = leb-true (room M) (length out) e in
-        subst (λ (a : Answer). Good M (a .state)) (sym (answer-is M st piece out g r))
-        (kept-by M (st .skipped) (heldBytes st) piece _ (few-held M st piece out g r) (finds-either M st piece out g r) out)
-    by-test false e =
-        subst (λ (a : Answer). Good M (a .state)) (sym (call-room M st piece out (g .rules) (leb-false (room M) (length out) e))) g
 
 pub fresh-good : (M : ℕ) → Good M (fresh M)
 fresh-good M = record { long = pad-long (room M) [] (omega arith); rules = are-rules M (fresh M) (omega arith) (omega arith) (pad-behind (room M) []) }

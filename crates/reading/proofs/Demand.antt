@@ -1,28 +1,137 @@
 -- Demand 3: a stream cut into pieces anywhere, each offered until more is asked for, is heard as the reading of the uncut stream, and
 -- leaves its state; offering ends. Assumes nothing.
-use Prim.Native.Nat.{ℕ, zero, suc, _+_, _≤_, _<_}
+use Prim.Native.Nat.{ℕ, zero, suc, _+_, _-_, _≤_, _<_}
 use native.Mathlib.Omega.{arith}
 use mathlib.Core.Bool.{Bool, true, false, true≢false, false≢true}
 use mathlib.Core.List.{List, [], _∷_, _++_, append-assoc, append-nil}
-use mathlib.Core.Logic.{⊎-elim}
-use mathlib.Core.Path.{_≡_, refl, sym, ap, _∙_}
-use lib.ListN.{length, drop, length-append, length-drop}
-use lib.Seq.{drop-length}
+use mathlib.Core.Logic.{_⊎_, ⊎-elim}
+use mathlib.Core.Path.{_≡_, refl, sym, ap, subst, _∙_}
+use borrow.Author.Tests.{le-leb, leb-true, leb-false}
+use lib.Dec.{leb}
+use lib.ListN.{length, take, drop, length-append, length-drop}
+use lib.Seq.{drop-length, take-append-add, drop-append-le}
 use Rattle.frame.specs.Frame.{room}
+use Rattle.verdict.specs.declared.Verdict.{Verdict}
+use Rattle.verdict.specs.Orders.{good}
+use Rattle.verdict.proofs.Order.{all-passed}
+use Rattle.reading.specs.declared.Event.the-variants.{More, Refused}
 use Rattle.reading.specs.declared.Standing.the-variants.{Wait}
-use Rattle.reading.specs.Values.{asks}
+use Rattle.reading.specs.declared.Step.{Step}
+use Rattle.reading.specs.Values.{asks, packetOf}
 use Rattle.reading.specs.Standing.{stands}
-use Rattle.reading.specs.Finding.{Heard, Reading, after, readOn, reading}
-use Rattle.reading.specs.Calls.{State, Answer, fresh, heldBytes, padTo, answerBy, called}
+use Rattle.reading.specs.Finding.{first, Heard, Reading, after, readOn, reading}
+use Rattle.reading.specs.Calls.{State, Answer, fresh, heldBytes, padTo, sound, callTests, answerBy, answered, judgedCall, refusedCall, called}
 use Rattle.reading.specs.Offers.{Roomy, heardIn, Offered, Streamed, joined, stateOf, countedAll, OfferEnds, StreamEnds, Reached}
 use Rattle.reading.specs.Offers.Reached.{begun, further}
 use Rattle.reading.specs.Offers.Offered.{enough, again}
 use Rattle.reading.specs.Offers.Streamed.{none, next}
+use Rattle.reading.proofs.Worths.{worth, packet-kept, packet-copied}
 use Rattle.reading.proofs.Stands.{nothing-waits}
-use Rattle.reading.proofs.Found.{Asked, Gave, hearing, reading-first}
+use Rattle.reading.proofs.Found.{Asked, Gave, either, first-early, heardAt, hearing, reading-first}
+use Rattle.reading.proofs.Events.{refuses, first-taken}
 use Rattle.reading.proofs.Pads.{pad-is}
-use Rattle.reading.proofs.Call.{Good, held-long, rules-are, finds, finds-either, answer-is, more-all, call-goes-on, call-heard, call-keeps, fresh-good}
+use Rattle.reading.proofs.Call.{Good, held-long, rules-are, goes-on, kept-by, held-by, call-room, fresh-good}
 use Rattle.reading.proofs.Account.{accounts}
+
+-- a state that keeps the rules and a buffer with room: the call is answered
+pub call-good : (M : ℕ) (st : State) (piece out : List ℕ) → sound M st ≡ true → room M ≤ length out → called M st piece out ≡ answered M st piece out
+unfolding called
+call-good M st piece out s h =
+    ap (λ (v : Verdict). judgedCall v (answered M st piece out) (λ n. refusedCall n st out))
+    (all-passed (callTests M st out) good (s, (le-leb (room M) (length out) h, tt)))
+
+-- a good state and a buffer with room
+module _ (M : ℕ) (st : State) (piece out : List ℕ) (g : Good M st) (room-there : room M ≤ length out) where
+  -- what is found first in the held bytes and the piece
+  abbrev pub finds : Step
+  finds = first M (st .skipped) (heldBytes st ++ piece)
+
+  pub finds-either : Asked M (st .skipped) (heldBytes st ++ piece) (first M (st .skipped) (heldBytes st ++ piece))
+      ⊎ Gave M (st .skipped) (heldBytes st ++ piece) (first M (st .skipped) (heldBytes st ++ piece))
+  finds-either = either M (st .skipped) (heldBytes st ++ piece) (omega (arith, rules-are M st (g .rules)))
+
+  pub few-held : length (heldBytes st) ≤ room M
+  few-held = omega (arith, held-long M st g, rules-are M st (g .rules))
+
+  pub answer-is : called M st piece out ≡ answered M st piece out
+  answer-is = call-good M st piece out (g .rules) room-there
+
+  -- it is not refused
+  pub not-refused : (n : ℕ) → called M st piece out .event ≡ Refused n → ⊥
+  unfolding answerBy refuses
+  not-refused n e =
+      false≢true
+      (sym (first-taken M (st .skipped) (heldBytes st ++ piece))
+      ∙ ap (λ (r : Answer). refuses (r .event)) (sym answer-is)
+      ∙ ap refuses e)
+
+  -- asking for more means that the whole piece was taken
+  pub more-all : asks (called M st piece out .event) ≡ true → called M st piece out .taken ≡ length piece
+  unfolding answerBy
+  more-all a =
+      ⊎-elim
+      (λ (q : Asked M (st .skipped) (heldBytes st ++ piece) finds).
+      ap (λ (r : Answer). r .taken) answer-is
+      ∙ omega (arith, q .all, length-append (heldBytes st) piece))
+      (λ (q : Gave M (st .skipped) (heldBytes st ++ piece) finds).
+      absurd (false≢true (sym (q .gives) ∙ sym (ap (λ (r : Answer). asks (r .event)) answer-is) ∙ a)))
+      finds-either
+
+  -- no byte is taken beyond the one that decides: on fewer bytes of the piece more is asked for
+  pub none-too-many : asks (called M st piece out .event) ≡ false → (n : ℕ) → n < called M st piece out .taken
+      → called M st (take n piece) out .event ≡ More
+  unfolding answerBy
+  none-too-many a n k =
+      let gave : asks (finds .event) ≡ false = sym (ap (λ (r : Answer). asks (r .event)) answer-is) ∙ a in
+      let fewer : length (heldBytes st) + n < finds .looked = omega (arith, ap (λ (r : Answer). r .taken) answer-is) in
+      ap (λ (r : Answer). r .event) (call-good M st (take n piece) out (g .rules) room-there)
+      ∙ ap (λ (xs : List ℕ). first M (st .skipped) xs .event) (sym (take-append-add (heldBytes st) piece n))
+      ∙ first-early M (st .skipped) (length (heldBytes st) + n) (heldBytes st ++ piece) (omega (arith, rules-are M st (g .rules))) gave fewer
+
+  -- the stream goes on from the new state and what was not taken
+  pub call-goes-on : (more : List ℕ) → drop (finds .next) ((heldBytes st ++ piece) ++ more)
+      ≡ (heldBytes (called M st piece out .state) ++ drop (called M st piece out .taken) piece) ++ more
+  unfolding answerBy
+  call-goes-on more =
+      let here = heldBytes st ++ piece in
+      let inside : finds .next ≤ length here =
+      ⊎-elim (λ (q : Asked M (st .skipped) here finds). omega (arith, q .stays, q .inside)) (λ (q : Gave M (st .skipped) here finds). omega (arith, q .seen, q .there)) finds-either in
+      drop-append-le (finds .next) here more inside
+      ∙ ap (λ (l : List ℕ). l ++ more)
+      (sym (goes-on M (st .skipped) (heldBytes st) piece finds few-held finds-either)
+      ∙ ap (λ (l : List ℕ). l ++ drop (finds .looked - length (heldBytes st)) piece)
+      (sym (held-by M (st .skipped) (heldBytes st) piece finds few-held finds-either out))
+      ∙ ap (λ (r : Answer). heldBytes (r .state) ++ drop (r .taken) piece) (sym answer-is))
+
+  -- what is heard is what was found, its packet whole in the buffer
+  pub call-heard : asks (called M st piece out .event) ≡ false → (more : List ℕ) → heardAt finds ((heldBytes st ++ piece) ++ more) ≡ heardIn (called M st piece out)
+  unfolding answerBy asks
+  call-heard a more =
+      let here = heldBytes st ++ piece in
+      let gave : asks (finds .event) ≡ false = sym (ap (λ (r : Answer). asks (r .event)) answer-is) ∙ a in
+      let whole : (finds .at ≤ length here) × (worth (finds .event) ≤ length (drop (finds .at) here)) =
+      ⊎-elim
+      (λ (q : Asked M (st .skipped) here finds). absurd (true≢false (ap asks (sym (q .event)) ∙ gave)))
+      (λ (q : Gave M (st .skipped) here finds). (omega (arith, q .stood, q .there), omega (arith, q .stood, q .there, length-drop (finds .at) here)))
+      finds-either in
+      let p = packetOf (finds .event) (drop (finds .at) here) in
+      ap (λ (b : List ℕ). record { event = finds .event; skipped = finds .carried; packet = b })
+      (ap (packetOf (finds .event)) (drop-append-le (finds .at) here more (whole .0))
+      ∙ packet-kept (finds .event) (drop (finds .at) here) more (whole .1)
+      ∙ sym (packet-copied (finds .event) (drop (finds .at) here) (drop (length p) out) (whole .1)))
+      ∙ ap heardIn (sym answer-is)
+
+-- every state that a call leaves keeps the rules, refused calls too
+pub call-keeps : (M : ℕ) (st : State) (piece out : List ℕ) → Good M st → Good M (called M st piece out .state)
+call-keeps M st piece out g = by-test (leb (room M) (length out)) refl
+  where
+    by-test : (t : Bool) → leb (room M) (length out) ≡ t → Good M (called M st piece out .state)
+    by-test true e =
+        let r : room M ≤ length out = leb-true (room M) (length out) e in
+        subst (λ (a : Answer). Good M (a .state)) (sym (answer-is M st piece out g r))
+        (kept-by M (st .skipped) (heldBytes st) piece _ (few-held M st piece out g r) (finds-either M st piece out g r) out)
+    by-test false e =
+        subst (λ (a : Answer). Good M (a .state)) (sym (call-room M st piece out (g .rules) (leb-false (room M) (length out) e))) g
 
 -- what was heard before a reading
 abbrev afters : List Heard → Reading → Reading
@@ -109,6 +218,22 @@ module _ (M : ℕ) (st : State) (piece out : List ℕ) (g : Good M st) (r : room
       (λ (q : Gave M (st .skipped) (heldBytes st ++ piece) (finds M st piece out g r)).
       omega (arith, left, q .moves, q .seen, q .there, length-drop (finds M st piece out g r .next) (heldBytes st ++ piece), length-append (heldBytes st) piece))
       (finds-either M st piece out g r)
+
+-- a call that goes on: it is not refused, leaves a state that keeps the rules, and gives an event only by a byte fewer held and offered
+pub record GoesOn (M : ℕ) (st : State) (piece : List ℕ) (a : Answer) : Type 0 where
+  pub answered : (n : ℕ) → a .event ≡ Refused n → ⊥
+  pub keeps : Good M (a .state)
+  pub falls : asks (a .event) ≡ false → a .state .held + length (drop (a .taken) piece) < st .held + length piece
+
+-- from a state that keeps the rules, with a buffer that has room, each call does
+pub call-on : (M : ℕ) (st : State) (piece out : List ℕ) → Good M st → room M ≤ length out → GoesOn M st piece (called M st piece out)
+call-on M st piece out g r =
+    let kept = call-keeps M st piece out g in
+    record {
+      answered = not-refused M st piece out g r;
+      keeps = kept;
+      falls = λ a. omega (arith, gave-falls M st piece out g r a, held-long M st g, held-long M (called M st piece out .state) kept);
+    }
 
 -- a state between pieces: it keeps the rules, and waits for more
 pub record Ready (M : ℕ) (st : State) : Type 0 where

@@ -17,21 +17,21 @@ use Rattle.reading.specs.declared.Event.{Event}
 use Rattle.reading.specs.declared.Event.the-variants.{More, Noise, Length, End, Sum, Packet, Refused}
 use Rattle.reading.specs.declared.Standing.{Standing}
 use Rattle.reading.specs.declared.Standing.the-variants.{Wait, Skip, Hit}
-use Rattle.reading.specs.Values.{told, packetOf}
+use Rattle.reading.specs.Values.{PACKET, told, packetOf}
 use Rattle.reading.specs.Standing.{whenThere, judgedFrame, started, stands}
 use Rattle.reading.specs.Finding.{noiseAt, Heard, after, readOn, reading}
 use Rattle.reading.proofs.Stands.{there-any, choice-any, stays}
 use Rattle.reading.proofs.Found.{reading-pass}
 
--- the bytes that an event brings: of PACKET a frame of its length
+-- the bytes that an event brings: of PACKET a frame of its length; neither the wish for more nor a refusal is heard
 abbrev Brings : ℕ → Event → List ℕ → Type 0
-Brings M More p = Unit
+Brings M More p = ⊥
 Brings M Noise p = Unit
 Brings M Length p = Unit
 Brings M End p = Unit
 Brings M Sum p = Unit
 Brings M (Packet n) p = (length p ≡ n) × Framed M p
-Brings M (Refused n) p = Unit
+Brings M (Refused n) p = ⊥
 
 abbrev Stood : ℕ → List ℕ → Standing → Type 0
 Stood M xs Wait = Unit
@@ -95,6 +95,23 @@ heard-framed M stream h m n e =
     let b : Brings M (Packet n) (h .packet) =
     subst (λ (w : Event). Brings M w (h .packet)) e (one-brings M h (reading M 0 0 stream .heard) (heard-bring M 0 0 stream) m) in
     (b .0, framed-good M (h .packet) (b .1))
+
+-- and so does each that is heard by its number
+pub number-framed : (M : ℕ) (stream : List ℕ) (h : Heard) → List·Memᴰ h (reading M 0 0 stream .heard) → told (h .event) .number ≡ PACKET
+    → (length (h .packet) ≡ told (h .event) .length) × (inOrder (frameTests M (h .packet)) good ≡ good)
+unfolding told
+number-framed M stream h m e =
+    let b = by-event (h .event) (one-brings M h (reading M 0 0 stream .heard) (heard-bring M 0 0 stream) m) e in
+    (b .0, framed-good M (h .packet) (b .1))
+  where
+    by-event : (v : Event) → Brings M v (h .packet) → told v .number ≡ PACKET → (length (h .packet) ≡ told v .length) × Framed M (h .packet)
+    by-event More b k = absurd b
+    by-event Noise b k = absurd (omega arith)
+    by-event Length b k = absurd (omega arith)
+    by-event End b k = absurd (omega arith)
+    by-event Sum b k = absurd (omega arith)
+    by-event (Packet n) b k = b
+    by-event (Refused n) b k = absurd b
 
 -- where a frame stands at the head of a list, PACKET does
 framed-stands : (M : ℕ) (p : List ℕ) → Framed M p → stands M p ≡ Hit (Packet (length p)) (length p) (length p)

@@ -1,9 +1,11 @@
 pub mod Worths
 pub mod Stands
 pub mod Found
+pub mod Events
 pub mod Frames
 pub mod Pads
 pub mod Call
 pub mod Account
 pub mod Demand
+pub mod Runs
 pub mod Examples

@@ -18,7 +18,8 @@ use Rattle.reading.specs.Calls.{Answer, padTo, sound, restOf, copied, answerBy,
 use Rattle.reading.proofs.Worths.{worth, packet-small}
 use Rattle.reading.proofs.Pads.{pad-is}
 use Rattle.reading.proofs.Found.{Asked, Gave, either}
-use Rattle.reading.proofs.Call.{rules-are, call-state, call-room, call-good, rest-fits}
+use Rattle.reading.proofs.Call.{rules-are, call-state, call-room, rest-fits}
+use Rattle.reading.proofs.Demand.{call-good}
 use Rattle.receiver.specs.declared.Served.{Served}
 use Rattle.receiver.specs.Receivers.{lent, receivedOf, servedOf}
 
