@@ -1,24 +1,23 @@
--- Over the calls' contracts themselves: a contract determines its results, and whatever answers meet `receive`'s contract, call after call,
--- a stream cut anywhere is heard as the reading of the uncut one. Assumes nothing.
-use Prim.Native.Nat.{ℕ, suc, _+_, _≤_}
+-- Over the calls' contracts themselves: a contract determines its results; and every receiver that meets `receive`'s contract, or `receive_lent`'s,
+-- hears a stream cut anywhere as the reading of the uncut one, in finitely many calls. Assumes nothing.
+use Prim.Native.Nat.{ℕ, _≤_}
 use contract.Lifetimes.{Lfts}
 use denote.Ref.{RefT, now}
-use mathlib.Core.Bool.{true, false}
-use mathlib.Core.List.{List, [], _∷_, _++_}
+use mathlib.Core.List.{List}
 use mathlib.Core.Path.{_≡_, sym, ap, subst, _∙_}
-use lib.ListN.{length, drop}
-use Rattle.reading.specs.Values.{asks, packetOf}
+use lib.ListN.{length}
 use Rattle.frame.specs.Frame.{room}
-use Rattle.reading.specs.Finding.{Heard, reading}
-use Rattle.reading.specs.Calls.{State, fresh, called}
-use Rattle.reading.specs.Offers.{heardIn, Offered, Streamed, joined, stateOf, countedAll}
-use Rattle.reading.specs.Offers.Offered.{enough, again}
-use Rattle.reading.specs.Offers.Streamed.{none, next}
-use Rattle.reading.proofs.Demand.{heard-as-read, accounted-for}
+use Rattle.reading.specs.Finding.{reading}
+use Rattle.reading.specs.Calls.{State, Answer, called}
+use Rattle.reading.specs.Offers.{joined}
+use Rattle.reading.proofs.Call.{Good}
+use Rattle.reading.proofs.Demand.{GoesOn, call-on}
+use Rattle.reading.proofs.Runs.{CutAnywhere, Whole, callsOf, whole-receiver}
 use Rattle.receiver.specs.declared.Receiver.{Receiver}
 use Rattle.receiver.specs.declared.Received.{Received}
 use Rattle.receiver.specs.declared.Served.{Served}
-use Rattle.receiver.specs.Receivers.{given, receiverOf, receivedOf}
+use Rattle.receiver.specs.Receivers.{lent, given, receiverOf}
+use Rattle.receiver.proofs.Receiver.fresh.Reads as made
 use Rattle.receiver.proofs.Receiver.receive.Reads as receive
 use Rattle.receiver.proofs.receive_lent.Reads as receive-lent
 use Rattle.receiver.proofs.clear_lent.Reads as clear-lent
@@ -37,55 +36,131 @@ lent-determined κs hold h k held skipped piece out o p r s a b = (a .0 ∙ sym 
 pub clear-determined : (κs : Lfts 1) (hold h k : RefT (List ℕ)) (r s : _) → clear-lent.Post κs (hold, tt) r (h, tt) → clear-lent.Post κs (hold, tt) s (k, tt) → now h ≡ now k
 clear-determined κs hold h k r s a b = a ∙ sym b
 
--- a piece offered until more is asked for: at each call any answer and any buffer that meet the contract
-pub data Offering (lent : ℕ → RefT (List ℕ)) : ℕ → Receiver → List ℕ → List Heard → Receiver → ℕ → Type 0 where
-  last : (i : ℕ) (x : Receiver) (bytes : List ℕ) (κs : Lfts 2) (piece o : RefT (List ℕ)) (r : Received) → now piece ≡ bytes
-      → receive.Post κs (x, (piece, (lent i, tt))) r (x, (piece, (o, tt))) → asks (r .event) ≡ true
-      → Offering lent i x bytes [] (r .state) (suc i)
-  more : (i : ℕ) (x : Receiver) (bytes : List ℕ) (κs : Lfts 2) (piece o : RefT (List ℕ)) (r : Received) (hs : List Heard) (end : Receiver) (j : ℕ)
-      → now piece ≡ bytes → receive.Post κs (x, (piece, (lent i, tt))) r (x, (piece, (o, tt))) → asks (r .event) ≡ false
-      → Offering lent (suc i) (r .state) (drop (r .taken) bytes) hs end j
-      → Offering lent i x bytes (record { event = r .event; skipped = r .skipped; packet = packetOf (r .event) (now o) } ∷ hs) end j
+-- how a caller lends: at its i-th call the lifetimes, a reference to the bytes of a piece, and a buffer of 1,054 bytes or more
+pub record Lending (n : ℕ) : Type 0 where
+  pub lifetimes : ℕ → Lfts n
+  pub piece : ℕ → List ℕ → RefT (List ℕ)
+  pub is-piece : (i : ℕ) (l : List ℕ) → now (piece i l) ≡ l
+  pub out : ℕ → RefT (List ℕ)
+  pub roomy : (i : ℕ) → 1054 ≤ length (now (out i))
 
--- the pieces one after the other
-pub data Streaming (lent : ℕ → RefT (List ℕ)) : ℕ → Receiver → List (List ℕ) → List Heard → Receiver → ℕ → Type 0 where
-  over : (i : ℕ) (x : Receiver) → Streaming lent i x [] [] x i
-  then : (i : ℕ) (x : Receiver) (piece : List ℕ) (pieces : List (List ℕ)) (hs ks : List Heard) (mid end : Receiver) (j k : ℕ)
-      → Offering lent i x piece hs mid j → Streaming lent j mid pieces ks end k → Streaming lent i x (piece ∷ pieces) (hs ++ ks) end k
+-- and where it keeps the hold
+pub record Holding : Type 0 where
+  pub hold : ℕ → List ℕ → RefT (List ℕ)
+  pub is-hold : (i : ℕ) (l : List ℕ) → now (hold i l) ≡ l
 
--- such calls are those of the definition
-offered : (lent : ℕ → RefT (List ℕ)) (i : ℕ) (x : Receiver) (bytes : List ℕ) (hs : List Heard) (end : Receiver) (j : ℕ)
-    → Offering lent i x bytes hs end j → Offered 1024 (λ n. now (lent n)) i (given x) bytes hs (given end) j
-offered lent i x bytes hs end j (Offering.last _ _ _ κs piece o r b p a) =
-    let e : r ≡ receivedOf (called 1024 (given x) bytes (now (lent i))) =
-    p .0 ∙ ap (λ (l : List ℕ). receivedOf (called 1024 (given x) l (now (lent i)))) b in
-    subst (λ (st : State). Offered 1024 (λ n. now (lent n)) i (given x) bytes [] st (suc i)) (sym (ap (λ (q : Received). given (q .state)) e))
-    (enough i (given x) bytes (sym (ap (λ (q : Received). asks (q .event)) e) ∙ a))
-offered lent i x bytes hs end j (Offering.more _ _ _ κs piece o r ks _ _ b p a t) =
-    let answer = called 1024 (given x) bytes (now (lent i)) in
-    let e : r ≡ receivedOf answer = p .0 ∙ ap (λ (l : List ℕ). receivedOf (called 1024 (given x) l (now (lent i)))) b in
-    let buffer : now o ≡ answer .out = p .1 ∙ ap (λ (l : List ℕ). called 1024 (given x) l (now (lent i)) .out) b in
-    let heard : record { event = r .event; skipped = r .skipped; packet = packetOf (r .event) (now o) } ≡ heardIn answer =
-    λ n. record { event = e n .event; skipped = e n .skipped; packet = packetOf (e n .event) (buffer n) } in
-    let rest = offered lent (suc i) (r .state) (drop (r .taken) bytes) ks end j t in
-    subst (λ (h : Heard). Offered 1024 (λ n. now (lent n)) i (given x) bytes (h ∷ ks) (given end) j) (sym heard)
-    (again i (given x) bytes ks (given end) j (sym (ap (λ (q : Received). asks (q .event)) e) ∙ a)
-    (subst (λ (q : Received). Offered 1024 (λ n. now (lent n)) (suc i) (given (q .state)) (drop (q .taken) bytes) ks (given end) j) e rest))
+-- BY VALUE: an answer of `receive` and a buffer at exit that meet its contract
+pub record Answered (κs : Lfts 2) (x : Receiver) (piece out : RefT (List ℕ)) : Type 0 where
+  pub answer : Received
+  pub left : RefT (List ℕ)
+  pub meets : receive.Post κs (x, (piece, (out, tt))) answer (x, (piece, (left, tt)))
 
-streamed : (lent : ℕ → RefT (List ℕ)) (i : ℕ) (x : Receiver) (pieces : List (List ℕ)) (hs : List Heard) (end : Receiver) (j : ℕ)
-    → Streaming lent i x pieces hs end j → Streamed 1024 (λ n. now (lent n)) i (given x) pieces hs (given end) j
-streamed lent i x pieces hs end j (Streaming.over _ _) = none i (given x)
-streamed lent i x pieces hs end j (Streaming.then _ _ piece rest os ks mid _ k _ o t) =
-    next i (given x) piece rest os ks (given mid) (given end) k j (offered lent i x piece os mid k o) (streamed lent k mid rest ks end j t)
+-- a receiver that meets the contract: its i-th call is answered from every state that keeps the rules, whatever the piece and the buffer (what the
+-- types rule out may be answered anyhow by the contract)
+abbrev pub Answers : Type 0
+Answers = (i : ℕ) (κs : Lfts 2) (x : Receiver) (piece out : RefT (List ℕ)) → Good 1024 (given x) → Answered κs x piece out
 
--- DEMAND 3, of the call itself: from a fresh receiver, with a buffer of 1,054 bytes or more at each call
-pub demand-3 : (lent : ℕ → RefT (List ℕ)) → ((i : ℕ) → 1054 ≤ length (now (lent i)))
-    → (pieces : List (List ℕ)) (hs : List Heard) (end : Receiver) (calls : ℕ) → Streaming lent 0 (receiverOf (fresh 1024)) pieces hs end calls
-    → (hs ≡ reading 1024 0 0 (joined pieces) .heard)
-    × (end ≡ receiverOf (stateOf 1024 (reading 1024 0 0 (joined pieces))))
-    × (countedAll hs + end .skipped + end .held ≡ length (joined pieces))
+-- an answer with its buffer
+abbrev pub answerOf : Received → List ℕ → Answer
+answerOf r out = record { event = r .event; skipped = r .skipped; taken = r .taken; state = given (r .state); out = out }
+
+answer-is : (κs : Lfts 2) (x : Receiver) (piece out o : RefT (List ℕ)) (r : Received) → receive.Post κs (x, (piece, (out, tt))) r (x, (piece, (o, tt)))
+    → answerOf r (now o) ≡ called 1024 (given x) (now piece) (now out)
+answer-is κs x piece out o r p =
+    λ n. record { event = p .0 n .event; skipped = p .0 n .skipped; taken = p .0 n .taken; state = given (p .0 n .state); out = p .1 n }
+
+-- from a state that keeps the rules, with a buffer of 1,054 bytes or more, no call is refused, and one that gives an event leaves fewer bytes held and offered
+pub receive-on : (κs : Lfts 2) (x : Receiver) (piece out o : RefT (List ℕ)) (r : Received) → Good 1024 (given x) → 1054 ≤ length (now out)
+    → receive.Post κs (x, (piece, (out, tt))) r (x, (piece, (o, tt))) → GoesOn 1024 (given x) (now piece) (answerOf r (now o))
 unfolding room
-demand-3 lent r pieces hs end calls t =
-    let run = streamed lent 0 (receiverOf (fresh 1024)) pieces hs end calls t in
-    let read = heard-as-read 1024 (λ n. now (lent n)) r pieces hs (given end) calls run in
-    (read .0, ap receiverOf (read .1), accounted-for 1024 (λ n. now (lent n)) r pieces hs (given end) calls run)
+receive-on κs x piece out o r g h p =
+    subst (GoesOn 1024 (given x) (now piece)) (sym (answer-is κs x piece out o r p)) (call-on 1024 (given x) (now piece) (now out) g h)
+
+-- its answers, as it is lent to
+abbrev pub answering : (box : Answers) (by : Lending 2) (i : ℕ) (st : State) (piece : List ℕ) → Good 1024 st
+    → Answered (by .lifetimes i) (receiverOf st) (by .piece i piece) (by .out i)
+answering box by i st piece g = box i (by .lifetimes i) (receiverOf st) (by .piece i piece) (by .out i) g
+
+abbrev pub valued : Answers → Lending 2 → Whole 1024
+valued box by i st piece g =
+    let a = answering box by i st piece g in
+    answerOf (a .answer) (now (a .left))
+
+-- DEMAND 3, of every receiver that meets `receive`'s contract, from what `fresh` makes
+pub demand-3 : (box : Answers) (by : Lending 2) (x : Receiver) → made.Post tt tt x tt → (pieces : List (List ℕ))
+    → CutAnywhere 1024 (callsOf 1024 (valued box by)) (given x) pieces (reading 1024 0 0 (joined pieces)) (reading 1024 0 0 (joined pieces) .heard)
+unfolding room
+demand-3 box by x e pieces =
+    subst
+    (λ (q : Receiver). CutAnywhere 1024 (callsOf 1024 (valued box by)) (given q) pieces (reading 1024 0 0 (joined pieces)) (reading 1024 0 0 (joined pieces) .heard))
+    (sym e)
+    (whole-receiver 1024 (λ i. now (by .out i)) (valued box by) (by .roomy)
+    (λ i st piece g.
+    let a = answering box by i st piece g in
+    answer-is (by .lifetimes i) (receiverOf st) (by .piece i piece) (by .out i) (a .left) (a .answer) (a .meets)
+    ∙ ap (λ (l : List ℕ). called 1024 st l (now (by .out i))) (by .is-piece i piece))
+    pieces)
+
+-- ON A LENT HOLD: an answer of `receive_lent` and a hold and a buffer at exit that meet its contract
+pub record Serving (κs : Lfts 3) (hold : RefT (List ℕ)) (held skipped : ℕ) (piece out : RefT (List ℕ)) : Type 0 where
+  pub answer : Served
+  pub kept : RefT (List ℕ)
+  pub left : RefT (List ℕ)
+  pub meets : receive-lent.Post κs (hold, (held, (skipped, (piece, (out, tt))))) answer (kept, (held, (skipped, (piece, (left, tt)))))
+
+abbrev pub Serves : Type 0
+Serves = (i : ℕ) (κs : Lfts 3) (hold : RefT (List ℕ)) (held skipped : ℕ) (piece out : RefT (List ℕ)) → Good 1024 (lent (now hold) held skipped)
+    → Serving κs hold held skipped piece out
+
+-- an answer with its hold and buffer
+abbrev pub servedIn : Served → List ℕ → List ℕ → Answer
+servedIn r hold out = record { event = r .event; skipped = r .skipped; taken = r .taken; state = lent hold (r .held) (r .count); out = out }
+
+served-is : (κs : Lfts 3) (hold h : RefT (List ℕ)) (held skipped : ℕ) (piece out o : RefT (List ℕ)) (r : Served)
+    → receive-lent.Post κs (hold, (held, (skipped, (piece, (out, tt))))) r (h, (held, (skipped, (piece, (o, tt)))))
+    → servedIn r (now h) (now o) ≡ called 1024 (lent (now hold) held skipped) (now piece) (now out)
+served-is κs hold h held skipped piece out o r p =
+    λ n. record {
+      event = p .0 n .event;
+      skipped = p .0 n .skipped;
+      taken = p .0 n .taken;
+      state = lent (p .1 .0 n) (p .0 n .held) (p .0 n .count);
+      out = p .1 .1 n;
+    }
+
+pub lent-on : (κs : Lfts 3) (hold h : RefT (List ℕ)) (held skipped : ℕ) (piece out o : RefT (List ℕ)) (r : Served)
+    → Good 1024 (lent (now hold) held skipped) → 1054 ≤ length (now out)
+    → receive-lent.Post κs (hold, (held, (skipped, (piece, (out, tt))))) r (h, (held, (skipped, (piece, (o, tt)))))
+    → GoesOn 1024 (lent (now hold) held skipped) (now piece) (servedIn r (now h) (now o))
+unfolding room
+lent-on κs hold h held skipped piece out o r g room-there p =
+    subst (GoesOn 1024 (lent (now hold) held skipped) (now piece)) (sym (served-is κs hold h held skipped piece out o r p))
+    (call-on 1024 (lent (now hold) held skipped) (now piece) (now out) g room-there)
+
+-- its answers, as it is lent to
+abbrev pub serving : (box : Serves) (in-hold : Holding) (by : Lending 3) (i : ℕ) (st : State) (piece : List ℕ) → Good 1024 st
+    → Serving (by .lifetimes i) (in-hold .hold i (st .hold)) (st .held) (st .skipped) (by .piece i piece) (by .out i)
+serving box in-hold by i st piece g =
+    box i (by .lifetimes i) (in-hold .hold i (st .hold)) (st .held) (st .skipped) (by .piece i piece) (by .out i)
+    (subst (λ (l : List ℕ). Good 1024 (lent l (st .held) (st .skipped))) (sym (in-hold .is-hold i (st .hold))) g)
+
+abbrev pub served : Serves → Holding → Lending 3 → Whole 1024
+served box in-hold by i st piece g =
+    let a = serving box in-hold by i st piece g in
+    servedIn (a .answer) (now (a .kept)) (now (a .left))
+
+-- DEMAND 3, of every receiver that meets `receive_lent`'s contract, from the hold that `clear_lent` makes
+pub demand-3-lent : (box : Serves) (in-hold : Holding) (by : Lending 3) (κs : Lfts 1) (row hold : RefT (List ℕ)) (r : _) → clear-lent.Post κs (row, tt) r (hold, tt)
+    → (pieces : List (List ℕ))
+    → CutAnywhere 1024 (callsOf 1024 (served box in-hold by)) (lent (now hold) 0 0) pieces (reading 1024 0 0 (joined pieces)) (reading 1024 0 0 (joined pieces) .heard)
+unfolding room
+demand-3-lent box in-hold by κs row hold r e pieces =
+    subst
+    (λ (q : List ℕ). CutAnywhere 1024 (callsOf 1024 (served box in-hold by)) (lent q 0 0) pieces (reading 1024 0 0 (joined pieces)) (reading 1024 0 0 (joined pieces) .heard))
+    (sym e)
+    (whole-receiver 1024 (λ i. now (by .out i)) (served box in-hold by) (by .roomy)
+    (λ i st piece g.
+    let a = serving box in-hold by i st piece g in
+    served-is (by .lifetimes i) (in-hold .hold i (st .hold)) (a .kept) (st .held) (st .skipped) (by .piece i piece) (by .out i) (a .left) (a .answer) (a .meets)
+    ∙ (λ n. called 1024 (lent (in-hold .is-hold i (st .hold) n) (st .held) (st .skipped)) (by .is-piece i piece n) (now (by .out i))))
+    pieces)
