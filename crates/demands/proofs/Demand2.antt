@@ -1,13 +1,12 @@
 -- Demand 2 of the tender: packets and objects, written and read again. Assumes nothing.
-use Prim.Native.Nat.{ℕ, _+_}
+use Prim.Native.Nat.{ℕ, _+_, _≤_}
 use mathlib.Core.Bool.{true}
 use mathlib.Core.List.{List}
-use mathlib.Core.Path.{_≡_, ap, _∙_}
-use lib.ListN.{take}
+use mathlib.Core.Path.{_≡_, sym, ap, subst, _∙_}
+use lib.ListN.{length, take, drop}
 use Rattle.fields.specs.declared.Fields.{Fields}
 use Rattle.fields.specs.Layouts.{kept as membersOf}
 use Rattle.fields.proofs.Rounds.{Ranged}
-use Rattle.frame.specs.Frame.{unitLength}
 use Rattle.kinds.specs.Table.{table, rows, entryOf}
 use Rattle.objects.specs.Writing.{writeVerdict, writtenUnit}
 use Rattle.objects.proofs.Promises.{written-stays-good}
@@ -15,12 +14,12 @@ use Rattle.objects.proofs.Reread.{written-reads}
 use Rattle.octets.specs.Numbers.{Octets}
 use Rattle.octets.specs.Parts.{part}
 use Rattle.output.specs.Writing.{packetVerdict, writtenPacket}
-use Rattle.output.proofs.Promises.{written-again, sent-there, sent-good, sent-opened, sent-unit}
+use Rattle.output.proofs.Promises.{again-good, again-there, again-beyond, opened-is, sent-there, sent-good, sent-opened, sent-unit}
 use Rattle.output.proofs.Sent.{Fitting}
 use Rattle.packet.specs.declared.Header.{Header}
 use Rattle.packet.specs.declared.Opened.{Opened}
 use Rattle.packet.specs.Frames.{unitOf, judgedPacket}
-use Rattle.packet.specs.Headers.{headerOf, openedPacket}
+use Rattle.packet.specs.Headers.{openedPacket}
 use Rattle.typed.specs.declared.Typed.{Typed}
 use Rattle.typed.specs.Typing.{typedObject}
 use Rattle.unit.specs.declared.Carrier.the-variants.{Any}
@@ -29,8 +28,27 @@ use Rattle.unit.specs.Units.{judgedUnit}
 use Rattle.verdict.specs.Orders.{good, isGood}
 
 -- DEMAND 2: "An accepted packet, written again from its fields, has the same bytes; a packet we write reads back as the same fields."
-pub packet-again : (p : List ℕ) → Octets p → isGood (judgedPacket rows p) ≡ true → writtenPacket rows p (headerOf p) (unitLength p) ≡ p
-packet-again p bytes g = written-again rows p bytes g
+-- o is what the reader answers of the packet p; the output is any that has room and in which the packet's unit stands from byte 28
+pub packet-again : (p out : List ℕ) (o : Opened) → Octets p → o ≡ openedPacket rows p → isGood (o .verdict) ≡ true
+    → 30 + o .length ≤ length out → part out 27 (27 + o .length) ≡ unitOf p
+    → (isGood (packetVerdict rows out (o .header) (o .length)) ≡ true)
+    × (take (30 + o .length) (writtenPacket rows out (o .header) (o .length)) ≡ p)
+    × (drop (30 + o .length) (writtenPacket rows out (o .header) (o .length)) ≡ drop (30 + o .length) out)
+packet-again p out o bytes read accepted =
+    let told = opened-is rows p (ap (λ (x : Opened). isGood (x .verdict)) (sym read) ∙ accepted) in
+    subst
+    (λ (x : Opened).
+    30 + x .length ≤ length out
+    → part out 27 (27 + x .length) ≡ unitOf p
+    → (isGood (packetVerdict rows out (x .header) (x .length)) ≡ true)
+    × (take (30 + x .length) (writtenPacket rows out (x .header) (x .length)) ≡ p)
+    × (drop (30 + x .length) (writtenPacket rows out (x .header) (x .length)) ≡ drop (30 + x .length) out))
+    (sym (read ∙ told .1))
+    (λ room stands. (
+      again-good rows p bytes (told .0) out room stands,
+      again-there rows p bytes (told .0) out room stands,
+      again-beyond rows p bytes (told .0) out room stands,
+    ))
 
 pub packet-read-back : (out : List ℕ) (h : Header) (l : ℕ) → Fitting h → isGood (packetVerdict rows out h l) ≡ true
     → (isGood (judgedPacket rows (take (30 + l) (writtenPacket rows out h l))) ≡ true)

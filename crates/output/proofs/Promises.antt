@@ -2,12 +2,12 @@
 -- write is accepted and reads back as the same fields and unit. Assumes nothing.
 use Prim.Native.Nat.{ℕ, _+_, _-_, _≤_}
 use native.Mathlib.Omega.{arith}
-use mathlib.Core.Bool.{true}
-use mathlib.Core.List.{List, _++_, append-nil}
+use mathlib.Core.Bool.{Bool, true, false, cond, false≢true}
+use mathlib.Core.List.{List, _++_}
 use mathlib.Core.Path.{_≡_, refl, sym, ap, _∙_}
 use borrow.Author.Tests.{le-leb}
-use lib.ListN.{length, take, drop, drop-of-length-le}
-use lib.Seq.{take-at}
+use lib.ListN.{length, take, drop}
+use lib.Seq.{take-at, drop-at}
 use Rattle.frame.specs.Frame.{unitLength, frameTests}
 use Rattle.kinds.specs.declared.Row.{Row}
 use Rattle.label.specs.Times.{judged, allowed}
@@ -17,7 +17,7 @@ use Rattle.octets.proofs.Parts.{length-part, put-from}
 use Rattle.packet.specs.declared.Header.{Header}
 use Rattle.packet.specs.declared.Opened.{Opened}
 use Rattle.packet.specs.Frames.{commandOf, unitOf, headerTests, judgedContent, judgedPacket}
-use Rattle.packet.specs.Headers.{headerOf, openedPacket}
+use Rattle.packet.specs.Headers.{headerOf, noHeader, openedPacket}
 use Rattle.output.specs.Packets.{packetBytes}
 use Rattle.unit.specs.Units.{isCommand, judgedUnder}
 use Rattle.verdict.specs.declared.Verdict.{Verdict}
@@ -32,32 +32,60 @@ use Rattle.output.proofs.Sent.{Fitting, header-sent, length-sent, unit-
 front : (o q : List ℕ) → length q ≤ length o → take (length q) (putAt o 0 q) ≡ q
 front o q h = ap (take (length q)) (put-from o 0 q (omega arith)) ∙ take-at q (drop (0 + length q) o) (length q) refl
 
-module _ (rs : List Row) (p : List ℕ) (bytes : Octets p) (g : isGood (judgedPacket rs p) ≡ true) where
-  -- the writer takes an accepted packet's own fields
-  pub again-good : isGood (packetVerdict rs p (headerOf p) (unitLength p)) ≡ true
+-- an accepted packet, and any output with room for it in which its unit stands
+module _ (rs : List Row) (p : List ℕ) (bytes : Octets p) (g : isGood (judgedPacket rs p) ≡ true) (out : List ℕ)
+    (room : 30 + unitLength p ≤ length out) (stands : part out 27 (27 + unitLength p) ≡ unitOf p) where
+  -- the writer takes the packet's own fields
+  pub again-good : isGood (packetVerdict rs out (headerOf p) (unitLength p)) ≡ true
   unfolding packetVerdict judgedPacket judgedContent
   again-good =
       let ok = accepted rs p g in
       let content = good-held (frameTests 1024 p) (judgedContent rs p) refl g .1 in
       let h = good-held (headerTests p) (judgedUnder rs (commandOf p) (unitOf p)) refl content in
       ap isGood
-      (all-passed (roomTests p (unitLength p) 30) _ (le-leb (unitLength p) 1024 (ok .frame .few), (le-leb (30 + unitLength p) (length p) (omega (arith, ok .frame .long)), tt))
-      ∙ all-passed (fieldTests (headerOf p)) _ (h .0 .1 .0, (h .0 .1 .1 .0, tt)))
+      (all-passed (roomTests out (unitLength p) 30) _ (le-leb (unitLength p) 1024 (ok .frame .few), (le-leb (30 + unitLength p) (length out) room, tt))
+      ∙ all-passed (fieldTests (headerOf p)) _ (h .0 .1 .0, (h .0 .1 .1 .0, tt))
+      ∙ ap (judgedUnder rs (commandOf p)) stands)
       ∙ h .1
 
-  -- "An accepted packet, written again from its fields, has the same bytes"
-  pub written-again : writtenPacket rs p (headerOf p) (unitLength p) ≡ p
+  -- "An accepted packet, written again from its fields, has the same bytes"; "A writer leaves bytes beyond what it writes as they were"
+  pub written-again : writtenPacket rs out (headerOf p) (unitLength p) ≡ p ++ drop (30 + unitLength p) out
   written-again =
-      let same = packet-back p bytes (accepted rs p g) in
-      let long : length (packetBytes (headerOf p) (unitOf p)) ≡ length p = ap length same in
-      sym (sealed rs p (headerOf p) (unitLength p) again-good)
-      ∙ ap (putAt p 0) same
-      ∙ whole
-    where
-      whole : putAt p 0 p ≡ p
-      whole =
-          let past : length p ≤ 0 + length p = omega arith in
-          put-from p 0 p (omega arith) ∙ ap (λ (x : List ℕ). p ++ x) (drop-of-length-le p past) ∙ append-nil p
+      let ok = accepted rs p g in
+      let end : 0 + length p ≡ 30 + unitLength p = omega (arith, ok .frame .long) in
+      sym (sealed rs out (headerOf p) (unitLength p) again-good)
+      ∙ ap (λ (u : List ℕ). putAt out 0 (packetBytes (headerOf p) u)) stands
+      ∙ ap (putAt out 0) (packet-back p bytes ok)
+      ∙ put-from out 0 p (omega (arith, ok .frame .long))
+      ∙ ap (λ (n : ℕ). p ++ drop n out) end
+
+  pub again-there : take (30 + unitLength p) (writtenPacket rs out (headerOf p) (unitLength p)) ≡ p
+  again-there =
+      ap (take (30 + unitLength p)) written-again ∙ take-at p (drop (30 + unitLength p) out) (30 + unitLength p) (accepted rs p g .frame .long)
+
+  pub again-beyond : drop (30 + unitLength p) (writtenPacket rs out (headerOf p) (unitLength p)) ≡ drop (30 + unitLength p) out
+  again-beyond =
+      ap (drop (30 + unitLength p)) written-again ∙ drop-at p (drop (30 + unitLength p) out) (30 + unitLength p) (accepted rs p g .frame .long)
+
+-- what the reader answers of an accepted packet
+pub opened-is : (rs : List Row) (p : List ℕ) → isGood (openedPacket rs p .verdict) ≡ true
+    → (isGood (judgedPacket rs p) ≡ true)
+    × _≡_ {A = Opened} (openedPacket rs p) (record { verdict = judgedPacket rs p; header = headerOf p; length = unitLength p })
+unfolding openedPacket
+opened-is rs p = by-test (isGood (judgedPacket rs p)) refl
+  where
+    v : Verdict
+    v = judgedPacket rs p
+
+    taken : Opened
+    taken = record { verdict = v; header = headerOf p; length = unitLength p }
+
+    refused : Opened
+    refused = record { verdict = v; header = noHeader; length = 0 }
+
+    by-test : (b : Bool) → isGood v ≡ b → isGood (cond b taken refused .verdict) ≡ true → (isGood v ≡ true) × (cond b taken refused ≡ taken)
+    by-test true e g = (e, refl)
+    by-test false e g = (g, absurd (false≢true (sym e ∙ g)))
 
 module _ (rs : List Row) (out : List ℕ) (h : Header) (l : ℕ) (fit : Fitting h) (g : isGood (packetVerdict rs out h l) ≡ true) where
   room : (l ≤ 1024) × (30 + l ≤ length out)
