@@ -4,3 +4,4 @@ pub mod Lending
 pub mod Back
 pub mod Sent
 pub mod Promises
+pub mod Given

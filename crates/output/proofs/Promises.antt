@@ -4,16 +4,18 @@ use Prim.Native.Nat.{ℕ, _+_, _-_, _≤_}
 use native.Mathlib.Omega.{arith}
 use mathlib.Core.Bool.{Bool, true, false, cond, false≢true}
 use mathlib.Core.List.{List, _++_}
+use mathlib.Core.Logic.{_↔_}
 use mathlib.Core.Path.{_≡_, refl, sym, ap, _∙_}
 use borrow.Author.Tests.{le-leb}
 use lib.ListN.{length, take, drop}
 use lib.Seq.{take-at, drop-at}
 use Rattle.frame.specs.Frame.{unitLength, frameTests}
 use Rattle.kinds.specs.declared.Row.{Row}
-use Rattle.label.specs.Times.{judged, allowed}
+use Rattle.label.specs.declared.Label.{Label}
+use Rattle.label.specs.Times.{labelOf, judged, allowed}
 use Rattle.octets.specs.Numbers.{Octets}
 use Rattle.octets.specs.Parts.{part, putAt}
-use Rattle.octets.proofs.Parts.{length-part, put-from}
+use Rattle.octets.proofs.Parts.{length-part, put-from, put-after}
 use Rattle.packet.specs.declared.Header.{Header}
 use Rattle.packet.specs.declared.Opened.{Opened}
 use Rattle.packet.specs.Frames.{commandOf, unitOf, headerTests, judgedContent, judgedPacket}
@@ -128,3 +130,40 @@ module _ (rs : List Row) (out : List ℕ) (h : Header) (l : ℕ) (fit : Fitting 
 
   pub sent-unit : unitOf (packetBytes h (part out 27 (27 + l))) ≡ part out 27 (27 + l)
   sent-unit = unit-sent h (part out 27 (27 + l)) fit few
+
+  pub sent-beyond : drop (30 + l) (writtenPacket rs out h l) ≡ drop (30 + l) out
+  sent-beyond =
+      let q : List ℕ = packetBytes h (part out 27 (27 + l)) in
+      let long : 30 + l ≡ 0 + length q = omega (arith, sent-long h (part out 27 (27 + l)) fit few, u-long) in
+      ap (drop (30 + l)) (sym (sealed rs out h l g))
+      ∙ ap (λ (n : ℕ). drop n (putAt out 0 q)) long
+      ∙ put-after out 0 q (omega (arith, room))
+      ∙ ap (λ (n : ℕ). drop n out) (sym long)
+
+-- the writer refuses nothing that its order does not name: its verdict is good exactly when there is room and the judge takes the packet made of the header and the unit
+module _ (rs : List Row) (out : List ℕ) (h : Header) (l : ℕ) (fit : Fitting h) where
+  taken-good : l ≤ 1024 → 30 + l ≤ length out → isGood (judgedPacket rs (packetBytes h (part out 27 (27 + l)))) ≡ true → isGood (packetVerdict rs out h l) ≡ true
+  unfolding packetVerdict judgedPacket judgedContent
+  taken-good few room g =
+      let u : List ℕ = part out 27 (27 + l) in
+      let q : List ℕ = packetBytes h u in
+      let long : length u ≡ 27 + l - 27 = length-part out 27 (27 + l) (omega arith) (omega arith) in
+      let short : length u ≤ 1024 = omega (arith, long) in
+      let command : commandOf q ≡ h .command = ap (λ (x : Header). x .command) (header-sent h u fit short) in
+      let label : labelOf (drop 6 q) ≡ h .label = ap (λ (x : Header). x .label) (header-sent h u fit short) in
+      let content = good-held (frameTests 1024 q) (judgedContent rs q) refl g .1 in
+      let k = good-held (headerTests q) (judgedUnder rs (commandOf q) (unitOf q)) refl content in
+      ap isGood
+      (all-passed (roomTests out l 30) _ (le-leb l 1024 few, (le-leb (30 + l) (length out) room, tt))
+      ∙ all-passed (fieldTests h) _
+      (ap isCommand (sym command) ∙ k .0 .1 .0, (ap (λ (x : Label). allowed (judged x)) (sym label) ∙ k .0 .1 .1 .0, tt))
+      ∙ ap (λ (c : ℕ). judgedUnder rs c u) (sym command)
+      ∙ ap (judgedUnder rs (commandOf q)) (sym (unit-sent h u fit short)))
+      ∙ k .1
+
+  pub good-when : (isGood (packetVerdict rs out h l) ≡ true)
+      ↔ ((l ≤ 1024) × (30 + l ≤ length out) × (isGood (judgedPacket rs (packetBytes h (part out 27 (27 + l)))) ≡ true))
+  good-when = (
+    λ g. (packet-roomy rs out h l g .0, packet-roomy rs out h l g .1, sent-good rs out h l fit g),
+    λ t. taken-good (t .0) (t .1) (t .2),
+  )
