@@ -6,4 +6,6 @@ pub mod Placed
 pub mod Kept
 pub mod Promises
 pub mod Reread
+pub mod Series
+pub mod Given
 pub mod Examples

@@ -5,3 +5,4 @@ pub mod Back
 pub mod Sent
 pub mod Promises
 pub mod Given
+pub mod Within
