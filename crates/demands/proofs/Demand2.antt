@@ -1,5 +1,6 @@
 -- Demand 2 of the tender: packets and objects, written and read again. Assumes nothing.
 use Prim.Native.Nat.{ℕ, suc, _+_, _*_, _≤_, _<_}
+use native.Mathlib.Omega.{arith}
 use mathlib.Core.Bool.{true}
 use mathlib.Core.List.{List, _∷_}
 use mathlib.Core.Logic.{_↔_}
@@ -17,13 +18,15 @@ use Rattle.kinds.specs.declared.Found.the-variants.{At}
 use Rattle.kinds.specs.Table.{NONE, table, rows, findRow, entryOf, descriptionSize}
 use Rattle.objects.specs.Writing.{isTimely, writeVerdict, writtenUnit}
 use Rattle.objects.specs.Texts.{textUnit, textVerdict, writtenText}
-use Rattle.objects.specs.Series.{Write, writtenAll, AllTaken, Each, lastOf}
+use Rattle.objects.specs.Series.{Write, writtenAll, AllTaken, Each, lastOf, readAt}
 use Rattle.objects.proofs.Placed.{Written-ok, write-good}
 use Rattle.objects.proofs.Promises.{written-stays-good, text-good}
 use Rattle.objects.proofs.Reread as reread
 use Rattle.objects.proofs.Reread.{written-reads, written-described}
 use Rattle.objects.proofs.Series.{ok-good, bytesAt, written-long, written-before, written-behind, written-there, others-kept}
 use Rattle.objects.proofs.Series.{Ok, laid-ok, each-map, each-last, all-taken, all-good, all-read, all-described}
+use Rattle.objects.proofs.Again as again
+use Rattle.objects.proofs.Again.{again-taken, unit-again}
 use Rattle.objects.proofs.Given.{fields-ranged}
 use Rattle.octets.specs.Numbers.{Octets}
 use Rattle.octets.specs.Parts.{part}
@@ -186,3 +189,21 @@ pub text-in-output : (out t : List ℕ)
     × (take 27 (writtenOutputText out t) ≡ take 27 out)
     × (drop (30 + length t) (writtenOutputText out t) ≡ drop (30 + length t) out))
 text-in-output out t = (within.text-good-when out t, λ g. (within.text-written out t g, within.text-head-kept out t g, within.text-rest-kept out t g))
+
+-- and read, then written: what the reader gives of the objects of an accepted unit, written in any order into any unit of its type, number and length, gives its bytes again
+pub objects-again : (u body : List ℕ) (ws : List Write) → Octets u → isGood (judgedUnit rows Any u) ≡ true → rowOf rows u .text ≡ NONE
+    → 2 + length body ≡ length u
+    → Each (λ w. (w .number < countOf u) × (w ≡ readAt table u (w .number))) ws → ((k : ℕ) → k < countOf u → lastOf k ws ≡ some (readAt table u k))
+    → AllTaken table (typeOf u ∷ countOf u ∷ body) ws × (writtenAll table (typeOf u ∷ countOf u ∷ body) ws ≡ u)
+objects-again u body ws bytes g plain long reads all = (again-taken u bytes g plain body long ws reads all, unit-again u bytes g plain body long ws reads all)
+
+pub text-again : (u out : List ℕ) → Octets u → isGood (judgedUnit rows Any u) ≡ true → typeOf u ≡ 26 → length u ≤ length out
+    → (isGood (textVerdict out (partIn u (descriptionPlace rows u 0))) ≡ true)
+    × (take (length u) (writtenText out (partIn u (descriptionPlace rows u 0))) ≡ u)
+text-again u out bytes g type room =
+    let t : List ℕ = partIn u (descriptionPlace rows u 0) in
+    let same : textUnit t ≡ u = again.text-again u g type in
+    let short : length t ≡ getD u 2 0 = ap (λ (x : List ℕ). getD x 2 0) same in
+    let long : length u ≡ 3 + length t = omega (arith, ap length same) in
+    let taken = reread.text-good-when out t .1 (omega (arith, short, bytes 2), omega (arith, long, room)) in
+    (taken, ap (λ (n : ℕ). take n (writtenText out t)) long ∙ reread.text-there out t taken ∙ same)

@@ -7,5 +7,6 @@ pub mod Kept
 pub mod Promises
 pub mod Reread
 pub mod Series
+pub mod Again
 pub mod Given
 pub mod Examples

@@ -2,11 +2,11 @@
 use Prim.Native.Nat.{ℕ, _+_, _-_, _≤_}
 use native.Mathlib.Omega.{arith}
 use mathlib.Core.Bool.{true}
-use mathlib.Core.List.{List, _++_}
+use mathlib.Core.List.{List}
 use mathlib.Core.Logic.{_↔_}
 use mathlib.Core.Path.{_≡_, refl, sym, ap, _∙_}
 use borrow.Author.Tests.{leb-true, le-leb}
-use lib.ListN.{length, take, drop, length-append, length-drop}
+use lib.ListN.{length, take, drop, length-drop}
 use lib.Seq.{take-at, drop-at, length-take-le, drop-drop}
 use Rattle.fields.specs.declared.Fields.{Fields}
 use Rattle.kinds.specs.Table.{table, rows}
@@ -15,8 +15,8 @@ use Rattle.objects.specs.Texts.{textUnit, textVerdict, writtenText}
 use Rattle.objects.proofs.Reread as objects
 use Rattle.objects.proofs.Series.{written-long}
 use Rattle.octets.specs.Parts.{part, putAt}
-use Rattle.octets.proofs.Parts.{part-is, length-part, put-part, put-before, put-after}
-use Rattle.verdict.specs.Orders.{inOrder, good, isGood}
+use Rattle.octets.proofs.Parts.{length-part, put-part, put-before, put-after}
+use Rattle.verdict.specs.Orders.{good, isGood}
 use Rattle.verdict.proofs.Order.{good-held, all-passed}
 use Rattle.output.specs.Writing.{roomTests}
 use Rattle.output.specs.Objects.{objectVerdict, writtenObject, outputTextVerdict, writtenOutputText}
