@@ -1,11 +1,12 @@
 -- Demand 3 of the tender: however the line's bytes are cut; and that receiver and judge have one notion of a packet. A receiver is here whatever
 -- answers each call from a sound state by the call's contract; nothing is asked of how it does so. Assumes nothing.
-use Prim.Native.Nat.{ℕ, _≤_}
+use Prim.Native.Nat.{ℕ, _+_, _≤_}
+use native.Mathlib.Omega.{arith}
 use contract.Lifetimes.{Lfts}
 use denote.Ref.{RefT, now}
 use mathlib.Core.Bool.{true}
 use mathlib.Core.List.{List, [], _∷_, map, List·Memᴰ}
-use mathlib.Core.Path.{_≡_, subst}
+use mathlib.Core.Path.{_≡_, ap, subst}
 use lib.ListN.{length}
 use Rattle.frame.specs.Frame.{frameTests}
 use Rattle.reading.specs.Values.{PACKET, told}
@@ -42,12 +43,16 @@ pub cut-anywhere : (box : stream.ServesC) (in-hold : Holding) (by : Lending 3) (
     (map stream.heardTo (reading 1024 0 0 (joined pieces) .heard))
 cut-anywhere = stream.demand-3-c
 
--- it is not refused, and an event costs a byte held or offered, so that offering ends
-pub call-goes-on : (κs : Lfts 3) (hold h : RefT (List ℕ)) (held count : ℕ) (piece out o : RefT (List ℕ)) (r : ServedC)
+-- the contract can be met, so that this is said of some receiver
+pub can-be-met : stream.ServesC
+can-be-met = stream.definition-serves
+
+-- a call is not refused, and an event costs a byte held or offered, so that offering ends
+pub c-goes-on : (κs : Lfts 3) (hold h : RefT (List ℕ)) (held count : ℕ) (piece out o : RefT (List ℕ)) (r : ServedC)
     → Good 1024 (lent (now hold) held count) → 1054 ≤ length (now out)
     → c-receive.Post κs (hold, (held, (count, (piece, (out, tt))))) r (h, (held, (count, (piece, (o, tt)))))
     → stream.GoesOnC held (now piece) r (now h)
-call-goes-on = stream.receive-on
+c-goes-on = stream.c-on
 
 -- DEMAND 3, OF THE LIBRARY'S CALLS on a lent hold
 pub cut-anywhere-lent : (box : Serves) (in-hold : Holding) (by : Lending 3) (κs : Lfts 1) (row hold : RefT (List ℕ)) (r : _)
@@ -56,30 +61,38 @@ pub cut-anywhere-lent : (box : Serves) (in-hold : Holding) (by : Lending 3) (κs
     (reading 1024 0 0 (joined pieces) .heard)
 cut-anywhere-lent = demand-3-lent
 
-pub lent-call-goes-on : (κs : Lfts 3) (hold h : RefT (List ℕ)) (held skipped : ℕ) (piece out o : RefT (List ℕ)) (r : Served)
+pub lent-goes-on : (κs : Lfts 3) (hold h : RefT (List ℕ)) (held skipped : ℕ) (piece out o : RefT (List ℕ)) (r : Served)
     → Good 1024 (lent (now hold) held skipped) → 1054 ≤ length (now out)
     → receive-lent.Post κs (hold, (held, (skipped, (piece, (out, tt))))) r (h, (held, (skipped, (piece, (o, tt)))))
     → GoesOn 1024 (lent (now hold) held skipped) (now piece) (servedIn r (now h) (now o))
-lent-call-goes-on = lent-on
+lent-goes-on = lent-on
 
 -- and by value
 pub cut-anywhere-by-value : (box : Answers) (by : Lending 2) (x : Receiver) → fresh.Post tt tt x tt → (pieces : List (List ℕ))
     → CutAnywhere 1024 (callsOf 1024 (valued box by)) (given x) pieces (reading 1024 0 0 (joined pieces)) (reading 1024 0 0 (joined pieces) .heard)
 cut-anywhere-by-value = demand-3
 
-pub value-call-goes-on : (κs : Lfts 2) (x : Receiver) (piece out o : RefT (List ℕ)) (r : Received) → Good 1024 (given x) → 1054 ≤ length (now out)
+pub value-goes-on : (κs : Lfts 2) (x : Receiver) (piece out o : RefT (List ℕ)) (r : Received) → Good 1024 (given x) → 1054 ≤ length (now out)
     → receive.Post κs (x, (piece, (out, tt))) r (x, (piece, (o, tt))) → GoesOn 1024 (given x) (now piece) (answerOf r (now o))
-value-call-goes-on = receive-on
+value-goes-on = receive-on
 
--- RECEIVER AND JUDGE: however the line's bytes are cut, each PACKET that is heard has its length and passes the judge's frame tests; and bytes
--- that pass them, alone on the line, are heard as one PACKET and nothing else, and leave a fresh receiver
+-- of every such run of the C calls
 module _ (box : stream.ServesC) (in-hold : Holding) (by : Lending 3) (κs : Lfts 1) (row hold : RefT (List ℕ)) (r : _)
     (made : c-fresh.Post κs (row, tt) r (hold, tt)) (pieces : List (List ℕ)) where
+  -- "Bytes received equal the events' skipped counts, one per LENGTH, END and SUM, the packets' lengths, the present count and the held bytes, added up."
+  pub each-byte-once : (hs : List stream.HeardC) (end : State) (n : ℕ) → Streaming (stream.callsC box in-hold by) 0 (lent (now hold) 0 0) pieces hs end n
+      → stream.countedC hs + end .skipped + end .held ≡ length (joined pieces)
+  each-byte-once hs end n run =
+      let same = cut-anywhere box in-hold by κs row hold r made pieces .no-other hs end n run in
+      omega (arith, ap stream.countedC (same .0), ap (λ (st : State). st .skipped) (same .1), ap (λ (st : State). st .held) (same .1), stream.c-counted (joined pieces))
+
+  -- RECEIVER AND JUDGE: however the line's bytes are cut, each PACKET that is heard has its length and passes the judge's frame tests
   pub heard-passes : (hs : List stream.HeardC) (end : State) (n : ℕ) → Streaming (stream.callsC box in-hold by) 0 (lent (now hold) 0 0) pieces hs end n
       → (h : stream.HeardC) → List·Memᴰ h hs → h .event ≡ PACKET → (length (h .packet) ≡ h .length) × (inOrder (frameTests 1024 (h .packet)) good ≡ good)
   heard-passes hs end n run h m =
       stream.c-framed (joined pieces) h (subst (List·Memᴰ h) (cut-anywhere box in-hold by κs row hold r made pieces .no-other hs end n run .0) m)
 
+  -- and bytes that pass them, alone on the line, are heard as one PACKET and nothing else, and leave a fresh receiver
   pub passing-heard : isGood (inOrder (frameTests 1024 (joined pieces)) good) ≡ true
       → CutAnywhere 1024 (stream.callsC box in-hold by) (lent (now hold) 0 0) pieces
       (record { heard = record { event = Packet (length (joined pieces)); skipped = 0; packet = joined pieces } ∷ []; held = []; skipped = 0 })

@@ -96,6 +96,11 @@ heard-framed M stream h m n e =
     subst (λ (w : Event). Brings M w (h .packet)) e (one-brings M h (reading M 0 0 stream .heard) (heard-bring M 0 0 stream) m) in
     (b .0, framed-good M (h .packet) (b .1))
 
+-- nothing that is heard is a refusal
+pub heard-taken : (M : ℕ) (stream : List ℕ) (h : Heard) → List·Memᴰ h (reading M 0 0 stream .heard) → (n : ℕ) → h .event ≡ Refused n → ⊥
+heard-taken M stream h m n e =
+    subst (λ (w : Event). Brings M w (h .packet)) e (one-brings M h (reading M 0 0 stream .heard) (heard-bring M 0 0 stream) m)
+
 -- and so does each that is heard by its number
 pub number-framed : (M : ℕ) (stream : List ℕ) (h : Heard) → List·Memᴰ h (reading M 0 0 stream .heard) → told (h .event) .number ≡ PACKET
     → (length (h .packet) ≡ told (h .event) .length) × (inOrder (frameTests M (h .packet)) good ≡ good)

@@ -1,27 +1,31 @@
 -- Demand 3 over the exports' contracts: every receiver that meets `trawnosz_receive`'s, from the hold that `trawnosz_fresh` makes. Assumes nothing.
 use Prim.Native.Nat.{ℕ, _+_, _≤_, _<_}
+use native.Mathlib.Omega.{arith}
 use contract.Lifetimes.{Lfts}
-use denote.Ref.{RefT, now}
-use mathlib.Core.Bool.{false}
+use denote.Ref.{RefT, now, at-last}
+use mathlib.Core.Bool.{false, cond, _||_}
 use mathlib.Core.List.{List, [], _∷_, map, List·Memᴰ, List·Memᴰ·head, List·Memᴰ·tail, List·Memᴰ·not-nil, List·Memᴰ·cases-cons}
 use mathlib.Core.Logic.{⊎-elim}
 use mathlib.Core.Path.{_≡_, refl, sym, ap, subst, _∙_}
 use lib.Dec.{eqb}
 use lib.ListN.{length, take, drop}
 use Rattle.frame.specs.Frame.{room, frameTests}
-use Rattle.reading.specs.Values.{MORE, PACKET, told, packetOf}
+use Rattle.reading.specs.Values.{MORE, PACKET, told, startByte, packetOf}
 use Rattle.reading.specs.Finding.{Heard, reading}
 use Rattle.reading.specs.Calls.{State, Answer, called}
-use Rattle.reading.specs.Offers.{heardIn, joined}
+use Rattle.reading.specs.Offers.{heardIn, joined, countedAll}
+use Rattle.reading.specs.declared.Event.{Event}
+use Rattle.reading.specs.declared.Event.the-variants.{More, Noise, Length, End, Sum, Packet, Refused}
+use Rattle.reading.proofs.Account.{accounts}
 use Rattle.reading.proofs.Call.{Good}
 use Rattle.reading.proofs.Demand.{GoesOn, call-on}
 use Rattle.reading.proofs.Events.{number-asks, number-taken}
-use Rattle.reading.proofs.Frames.{number-framed}
+use Rattle.reading.proofs.Frames.{heard-taken, number-framed}
 use Rattle.reading.proofs.Runs.{Shown, Calls, CutAnywhere, shown, any-receiver}
 use Rattle.receiver.specs.Receivers.{lent, servedOf}
 use Rattle.receiver.proofs.Demands.{Lending, Holding}
 use Rattle.verdict.specs.Orders.{inOrder, good}
-use Rattle.verdict.specs.Refusals.{STATE, ROOM}
+use Rattle.verdict.specs.Refusals.{STATE, ROOM, LENGTH, END, SUM}
 use Rattle.trawnosz.specs.declared.ServedC.{ServedC}
 use Rattle.trawnosz.specs.Calls.{servedTo}
 use Rattle.trawnosz.proofs.trawnosz_fresh.Reads as made
@@ -101,8 +105,8 @@ module _ (κs : Lfts 3) (hold h : RefT (List ℕ)) (held count : ℕ) (piece out
   shown-is = (λ n. shownC (p .0 n) (p .1 .0 n) (p .1 .1 n)) ∙ seen (lent (now hold) held count) (now piece) _ answer-on
 
   -- and goes on
-  pub receive-on : GoesOnC held (now piece) r (now h)
-  receive-on =
+  pub c-on : GoesOnC held (now piece) r (now h)
+  c-on =
       let a = called 1024 (lent (now hold) held count) (now piece) (now out) in
       let on = answer-on in
       subst (λ (q : ServedC × List ℕ). GoesOnC held (now piece) (q .0) (q .1)) (sym (λ n. (p .0 n, p .1 .0 n)))
@@ -155,3 +159,39 @@ c-framed stream h m e =
     let k = heard-in (reading 1024 0 0 stream .heard) h m in
     subst (λ (q : HeardC). (length (q .packet) ≡ q .length) × (inOrder (frameTests 1024 (q .packet)) good ≡ good)) (sym (k .2))
     (number-framed 1024 stream (k .0) (k .1) (sym (ap (λ (q : HeardC). q .event) (k .2)) ∙ e))
+
+-- the bytes that what is heard accounts for: its count, one for each LENGTH, END and SUM, and the packet
+abbrev pub startOf : ℕ → ℕ
+startOf n = cond (eqb n LENGTH || eqb n END || eqb n SUM) 1 0
+
+unfoldable pub countedC : List HeardC → ℕ
+countedC [] = 0
+countedC (h ∷ hs) = h .skipped + startOf (h .event) + length (h .packet) + countedC hs
+
+number-starts : (e : Event) → ((n : ℕ) → e ≡ Refused n → ⊥) → startOf (told e .number) ≡ startByte e
+unfolding told startByte
+number-starts More h = refl
+number-starts Noise h = refl
+number-starts Length h = refl
+number-starts End h = refl
+number-starts Sum h = refl
+number-starts (Packet n) h = refl
+number-starts (Refused n) h = absurd (h n refl)
+
+counted-same : (hs : List Heard) → ((h : Heard) → List·Memᴰ h hs → (n : ℕ) → h .event ≡ Refused n → ⊥) → countedC (map heardTo hs) ≡ countedAll hs
+unfolding countedC countedAll
+counted-same [] k = refl
+counted-same (h ∷ hs) k =
+    omega (arith, number-starts (h .event) (k h (List·Memᴰ·head refl)), counted-same hs (λ g m. k g (List·Memᴰ·tail m)))
+
+-- each byte of a stream is accounted for once, by what is heard over C, skipped or still held
+pub c-counted : (stream : List ℕ)
+    → countedC (map heardTo (reading 1024 0 0 stream .heard)) + reading 1024 0 0 stream .skipped + length (reading 1024 0 0 stream .held) ≡ length stream
+c-counted stream =
+    omega (arith, counted-same (reading 1024 0 0 stream .heard) (heard-taken 1024 stream), accounts 1024 0 0 stream (omega arith))
+
+-- the contract can be met: by the definition's answers
+pub definition-serves : ServesC
+definition-serves i κs hold held count piece out g =
+    let a = called 1024 (lent (now hold) held count) (now piece) (now out) in
+    record { answer = servedTo (servedOf a); kept = at-last hold (a .state .hold); left = at-last out (a .out); meets = (refl, (refl, refl)) }
