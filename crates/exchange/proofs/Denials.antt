@@ -49,20 +49,16 @@ module _ (t r : ℕ) (p : Place) where
   nothing-told : Other NOTHING
   nothing-told = (λ e. omega (arith, e), λ e. omega (arith, e))
 
+  freed-tells : (b : Bool) (o : ℕ) → Other o → Other (cond b (becomes free o) (becomes p NOTHING) .outcome)
+  freed-tells true o h = h
+  freed-tells false o h = nothing-told
+
   -- a call that does not deny the place tells neither
   other-step : keeps t r p ≡ true → (c : Call) → denies t p c ≡ false → Other (stepBy t r p c .outcome)
   unfolding denies stepBy replied ticked
   other-step k (begin m) h = nothing-told
-  other-step k (reply s Confirm) h = by-fit (fits s Confirm p)
-    where
-      by-fit : (b : Bool) → Other (cond b (becomes free CONFIRMED) (becomes p NOTHING) .outcome)
-      by-fit true = (λ e. omega (arith, e), λ e. omega (arith, e))
-      by-fit false = nothing-told
-  other-step k (reply s Answer) h = by-fit (fits s Answer p)
-    where
-      by-fit : (b : Bool) → Other (cond b (becomes free ANSWERED) (becomes p NOTHING) .outcome)
-      by-fit true = (λ e. omega (arith, e), λ e. omega (arith, e))
-      by-fit false = nothing-told
+  other-step k (reply s Confirm) h = freed-tells (fits s Confirm p) CONFIRMED (λ e. omega (arith, e), λ e. omega (arith, e))
+  other-step k (reply s Answer) h = freed-tells (fits s Answer p) ANSWERED (λ e. omega (arith, e), λ e. omega (arith, e))
   other-step k (reply s Deny) h = subst⁻¹ (λ (b : Bool). Other (cond b (denied r p) (becomes p NOTHING) .outcome)) h nothing-told
   other-step k (reply s BadAnswer) h = subst⁻¹ (λ (b : Bool). Other (cond b (denied r p) (becomes p NOTHING) .outcome)) h nothing-told
   other-step k tick h = by-mode (isOpen (p .mode)) refl
