@@ -12,7 +12,7 @@ use lib.ListN.{length, take, drop, length-append, length-drop}
 use lib.Seq.{drop-length, take-append-add, drop-append-le}
 use Rattle.frame.specs.Frame.{room}
 use Rattle.verdict.specs.declared.Verdict.{Verdict}
-use Rattle.verdict.specs.Orders.{good}
+use Rattle.verdict.specs.Orders.{inOrder, good}
 use Rattle.verdict.proofs.Order.{all-passed}
 use Rattle.reading.specs.declared.Event.the-variants.{More, Refused}
 use Rattle.reading.specs.declared.Standing.the-variants.{Wait}
@@ -33,12 +33,23 @@ use Rattle.reading.proofs.Pads.{pad-is}
 use Rattle.reading.proofs.Call.{Good, held-long, rules-are, goes-on, kept-by, held-by, call-room, fresh-good}
 use Rattle.reading.proofs.Account.{accounts}
 
--- a state that keeps the rules and a buffer with room: the call is answered
+-- a state that keeps the rules and a buffer with room are judged good
+judged-good : (M : ℕ) (st : State) (out : List ℕ) → sound M st ≡ true → room M ≤ length out → inOrder (callTests M st out) good ≡ good
+judged-good M st out s h = all-passed (callTests M st out) good (s, (le-leb (room M) (length out) h, tt))
+
+-- so the call is not refused
+pub not-refused : (M : ℕ) (st : State) (piece out : List ℕ) → Good M st → room M ≤ length out → (n : ℕ) → called M st piece out .event ≡ Refused n → ⊥
+unfolding called answerBy refuses
+not-refused M st piece out g h n e =
+    let same : refuses (first M (st .skipped) (heldBytes st ++ piece) .event) ≡ refuses (called M st piece out .event) =
+    rw (judged-good M st out (g .rules) h, called) refl in
+    false≢true (sym (first-taken M (st .skipped) (heldBytes st ++ piece)) ∙ same ∙ ap refuses e)
+
+-- but answered
 pub call-good : (M : ℕ) (st : State) (piece out : List ℕ) → sound M st ≡ true → room M ≤ length out → called M st piece out ≡ answered M st piece out
 unfolding called
 call-good M st piece out s h =
-    ap (λ (v : Verdict). judgedCall v (answered M st piece out) (λ n. refusedCall n st out))
-    (all-passed (callTests M st out) good (s, (le-leb (room M) (length out) h, tt)))
+    ap (λ (v : Verdict). judgedCall v (answered M st piece out) (λ n. refusedCall n st out)) (judged-good M st out s h)
 
 -- a good state and a buffer with room
 module _ (M : ℕ) (st : State) (piece out : List ℕ) (g : Good M st) (room-there : room M ≤ length out) where
@@ -55,15 +66,6 @@ module _ (M : ℕ) (st : State) (piece out : List ℕ) (g : Good M st) (room-the
 
   pub answer-is : called M st piece out ≡ answered M st piece out
   answer-is = call-good M st piece out (g .rules) room-there
-
-  -- it is not refused
-  pub not-refused : (n : ℕ) → called M st piece out .event ≡ Refused n → ⊥
-  unfolding answerBy refuses
-  not-refused n e =
-      false≢true
-      (sym (first-taken M (st .skipped) (heldBytes st ++ piece))
-      ∙ ap (λ (r : Answer). refuses (r .event)) (sym answer-is)
-      ∙ ap refuses e)
 
   -- asking for more means that the whole piece was taken
   pub more-all : asks (called M st piece out .event) ≡ true → called M st piece out .taken ≡ length piece
