@@ -46,7 +46,8 @@ use Rattle.reading.specs.Finding.{noiseAt, onward, more, noise, hit, found, fir
 use Rattle.reading.specs.Calls.{State, heldBytes, sound, callTests, answerBy, called}
 use Rattle.reading.specs.Calls.{Answer as Called}
 use Rattle.reading.proofs.Stands.{there-any, choice-any}
-use Rattle.reading.proofs.Call.{call-refused, call-good}
+use Rattle.reading.proofs.Call.{call-refused}
+use Rattle.reading.proofs.Demand.{call-good}
 use Rattle.receiver.specs.Receivers.{lent, servedOf}
 use Rattle.reply.specs.Replies.{commandFor, replyVerdict, answered, writtenReply}
 use Rattle.trawnosz.specs.declared.AnswerC.{AnswerC}
