@@ -37,14 +37,14 @@ use Rattle.receiver.proofs.receive_lent.Reads as receive-lent
 -- places of your choosing and offer each piece, then what was not yet taken of it, until the receiver asks for more. The packets, refused starts, noise
 -- reports and skipped counts, in order, and the state at the end, are those of document 01's reading of the uncut stream. Each byte received is accounted
 -- for once: in a packet, as the first byte of a refused start, as skipped, or still held." There is such a run, and no other
-pub cut-anywhere : (box : stream.ServesC) (in-hold : Holding) (by : Lending 3) (κs : Lfts 1) (row hold : RefT (List ℕ)) (r : _)
+pub cut-anywhere : (box : Serves c-receive.Post) (in-hold : Holding) (by : Lending 3) (κs : Lfts 1) (row hold : RefT (List ℕ)) (r : _)
     → c-fresh.Post κs (row, tt) r (hold, tt) → (pieces : List (List ℕ))
     → CutAnywhere 1024 (stream.callsC box in-hold by) (lent (now hold) 0 0) pieces (reading 1024 0 0 (joined pieces))
     (map stream.heardTo (reading 1024 0 0 (joined pieces) .heard))
 cut-anywhere = stream.demand-3-c
 
 -- the contract can be met, so that this is said of some receiver
-pub can-be-met : stream.ServesC
+pub can-be-met : Serves c-receive.Post
 can-be-met = stream.definition-serves
 
 -- a call is not refused, and an event costs a byte held or offered, so that offering ends
@@ -55,7 +55,7 @@ pub c-goes-on : (κs : Lfts 3) (hold h : RefT (List ℕ)) (held count : ℕ) (pi
 c-goes-on = stream.c-on
 
 -- DEMAND 3, OF THE LIBRARY'S CALLS on a lent hold
-pub cut-anywhere-lent : (box : Serves) (in-hold : Holding) (by : Lending 3) (κs : Lfts 1) (row hold : RefT (List ℕ)) (r : _)
+pub cut-anywhere-lent : (box : Serves receive-lent.Post) (in-hold : Holding) (by : Lending 3) (κs : Lfts 1) (row hold : RefT (List ℕ)) (r : _)
     → clear-lent.Post κs (row, tt) r (hold, tt) → (pieces : List (List ℕ))
     → CutAnywhere 1024 (callsOf 1024 (served box in-hold by)) (lent (now hold) 0 0) pieces (reading 1024 0 0 (joined pieces))
     (reading 1024 0 0 (joined pieces) .heard)
@@ -77,7 +77,7 @@ pub value-goes-on : (κs : Lfts 2) (x : Receiver) (piece out o : RefT (List ℕ)
 value-goes-on = receive-on
 
 -- of every such run of the C calls
-module _ (box : stream.ServesC) (in-hold : Holding) (by : Lending 3) (κs : Lfts 1) (row hold : RefT (List ℕ)) (r : _)
+module _ (box : Serves c-receive.Post) (in-hold : Holding) (by : Lending 3) (κs : Lfts 1) (row hold : RefT (List ℕ)) (r : _)
     (made : c-fresh.Post κs (row, tt) r (hold, tt)) (pieces : List (List ℕ)) where
   -- "Bytes received equal the events' skipped counts, one per LENGTH, END and SUM, the packets' lengths, the present count and the held bytes, added up."
   pub each-byte-once : (hs : List stream.HeardC) (end : State) (n : ℕ) → Streaming (stream.callsC box in-hold by) 0 (lent (now hold) 0 0) pieces hs end n

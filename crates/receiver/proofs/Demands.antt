@@ -101,16 +101,30 @@ demand-3 box by x e pieces =
     ∙ ap (λ (l : List ℕ). called 1024 st l (now (by .out i))) (by .is-piece i piece))
     pieces)
 
--- ON A LENT HOLD: an answer of `receive_lent` and a hold and a buffer at exit that meet its contract
-pub record Serving (κs : Lfts 3) (hold : RefT (List ℕ)) (held skipped : ℕ) (piece out : RefT (List ℕ)) : Type 0 where
-  pub answer : Served
+-- ON A LENT HOLD: the hold, the held length and the count, a piece and a buffer, at entry and at exit of a call
+abbrev pub Lent : Type 0
+Lent = RefT (List ℕ) × (ℕ × (ℕ × (RefT (List ℕ) × (RefT (List ℕ) × Unit {0}))))
+
+-- an answer and a hold and a buffer at exit that meet a call's contract
+pub record Serving {R : Type 0} (Post : Lfts 3 → Lent → R → Lent → Type 0) (κs : Lfts 3) (hold : RefT (List ℕ)) (held skipped : ℕ)
+    (piece out : RefT (List ℕ)) : Type 0 where
+  pub answer : R
   pub kept : RefT (List ℕ)
   pub left : RefT (List ℕ)
-  pub meets : receive-lent.Post κs (hold, (held, (skipped, (piece, (out, tt))))) answer (kept, (held, (skipped, (piece, (left, tt)))))
+  pub meets : Post κs (hold, (held, (skipped, (piece, (out, tt))))) answer (kept, (held, (skipped, (piece, (left, tt)))))
 
-abbrev pub Serves : Type 0
-Serves = (i : ℕ) (κs : Lfts 3) (hold : RefT (List ℕ)) (held skipped : ℕ) (piece out : RefT (List ℕ)) → Good 1024 (lent (now hold) held skipped)
-    → Serving κs hold held skipped piece out
+-- a receiver that meets a call's contract
+abbrev pub Serves : {R : Type 0} → (Lfts 3 → Lent → R → Lent → Type 0) → Type 0
+Serves Post = (i : ℕ) (κs : Lfts 3) (hold : RefT (List ℕ)) (held skipped : ℕ) (piece out : RefT (List ℕ)) → Good 1024 (lent (now hold) held skipped)
+    → Serving Post κs hold held skipped piece out
+
+-- its answers, as it is lent to
+abbrev pub serving : {R : Type 0} (Post : Lfts 3 → Lent → R → Lent → Type 0) (box : Serves Post) (in-hold : Holding) (by : Lending 3)
+    (i : ℕ) (st : State) (piece : List ℕ) → Good 1024 st
+    → Serving Post (by .lifetimes i) (in-hold .hold i (st .hold)) (st .held) (st .skipped) (by .piece i piece) (by .out i)
+serving Post box in-hold by i st piece g =
+    box i (by .lifetimes i) (in-hold .hold i (st .hold)) (st .held) (st .skipped) (by .piece i piece) (by .out i)
+    (subst (λ (l : List ℕ). Good 1024 (lent l (st .held) (st .skipped))) (sym (in-hold .is-hold i (st .hold))) g)
 
 -- an answer with its hold and buffer
 abbrev pub servedIn : Served → List ℕ → List ℕ → Answer
@@ -137,20 +151,14 @@ lent-on κs hold h held skipped piece out o r g room-there p =
     subst (GoesOn 1024 (lent (now hold) held skipped) (now piece)) (sym (served-is κs hold h held skipped piece out o r p))
     (call-on 1024 (lent (now hold) held skipped) (now piece) (now out) g room-there)
 
--- its answers, as it is lent to
-abbrev pub serving : (box : Serves) (in-hold : Holding) (by : Lending 3) (i : ℕ) (st : State) (piece : List ℕ) → Good 1024 st
-    → Serving (by .lifetimes i) (in-hold .hold i (st .hold)) (st .held) (st .skipped) (by .piece i piece) (by .out i)
-serving box in-hold by i st piece g =
-    box i (by .lifetimes i) (in-hold .hold i (st .hold)) (st .held) (st .skipped) (by .piece i piece) (by .out i)
-    (subst (λ (l : List ℕ). Good 1024 (lent l (st .held) (st .skipped))) (sym (in-hold .is-hold i (st .hold))) g)
-
-abbrev pub served : Serves → Holding → Lending 3 → Whole 1024
+-- its whole answers
+abbrev pub served : Serves receive-lent.Post → Holding → Lending 3 → Whole 1024
 served box in-hold by i st piece g =
-    let a = serving box in-hold by i st piece g in
+    let a = serving receive-lent.Post box in-hold by i st piece g in
     servedIn (a .answer) (now (a .kept)) (now (a .left))
 
 -- DEMAND 3, of every receiver that meets `receive_lent`'s contract, from the hold that `clear_lent` makes
-pub demand-3-lent : (box : Serves) (in-hold : Holding) (by : Lending 3) (κs : Lfts 1) (row hold : RefT (List ℕ)) (r : _) → clear-lent.Post κs (row, tt) r (hold, tt)
+pub demand-3-lent : (box : Serves receive-lent.Post) (in-hold : Holding) (by : Lending 3) (κs : Lfts 1) (row hold : RefT (List ℕ)) (r : _) → clear-lent.Post κs (row, tt) r (hold, tt)
     → (pieces : List (List ℕ))
     → CutAnywhere 1024 (callsOf 1024 (served box in-hold by)) (lent (now hold) 0 0) pieces (reading 1024 0 0 (joined pieces)) (reading 1024 0 0 (joined pieces) .heard)
 unfolding room
@@ -160,7 +168,7 @@ demand-3-lent box in-hold by κs row hold r e pieces =
     (sym e)
     (whole-receiver 1024 (λ i. now (by .out i)) (served box in-hold by) (by .roomy)
     (λ i st piece g.
-    let a = serving box in-hold by i st piece g in
+    let a = serving receive-lent.Post box in-hold by i st piece g in
     served-is (by .lifetimes i) (in-hold .hold i (st .hold)) (a .kept) (st .held) (st .skipped) (by .piece i piece) (by .out i) (a .left) (a .answer) (a .meets)
     ∙ (λ n. called 1024 (lent (in-hold .is-hold i (st .hold) n) (st .held) (st .skipped)) (by .is-piece i piece n) (now (by .out i))))
     pieces)

@@ -23,7 +23,7 @@ use Rattle.reading.proofs.Events.{number-asks, number-taken}
 use Rattle.reading.proofs.Frames.{heard-taken, number-framed}
 use Rattle.reading.proofs.Runs.{Shown, Calls, CutAnywhere, shown, any-receiver}
 use Rattle.receiver.specs.Receivers.{lent, servedOf}
-use Rattle.receiver.proofs.Demands.{Lending, Holding}
+use Rattle.receiver.proofs.Demands.{Lending, Holding, Serves, serving}
 use Rattle.verdict.specs.Orders.{inOrder, good}
 use Rattle.verdict.specs.Refusals.{STATE, ROOM, LENGTH, END, SUM}
 use Rattle.trawnosz.specs.declared.ServedC.{ServedC}
@@ -41,19 +41,6 @@ pub record HeardC : Type 0 where
 abbrev pub heardTo : Heard → HeardC
 heardTo h = record { event = told (h .event) .number; length = told (h .event) .length; skipped = h .skipped; packet = h .packet }
 
--- an answer of `trawnosz_receive` and a hold and a buffer at exit that meet its contract
-pub record ServingC (κs : Lfts 3) (hold : RefT (List ℕ)) (held count : ℕ) (piece out : RefT (List ℕ)) : Type 0 where
-  pub answer : ServedC
-  pub kept : RefT (List ℕ)
-  pub left : RefT (List ℕ)
-  pub meets : receive.Post κs (hold, (held, (count, (piece, (out, tt))))) answer (kept, (held, (count, (piece, (left, tt)))))
-
--- a receiver that meets the contract: its i-th call is answered from every state that keeps the rules, whatever the piece and the buffer (what the
--- types rule out may be answered anyhow by the contract)
-abbrev pub ServesC : Type 0
-ServesC = (i : ℕ) (κs : Lfts 3) (hold : RefT (List ℕ)) (held count : ℕ) (piece out : RefT (List ℕ)) → Good 1024 (lent (now hold) held count)
-    → ServingC κs hold held count piece out
-
 -- what a C program sees of an answer: more is asked for by its number, and the packet is so many bytes of the buffer
 abbrev pub shownC : ServedC → List ℕ → List ℕ → Shown HeardC
 shownC r hold out =
@@ -64,17 +51,14 @@ shownC r hold out =
       state = lent hold (r .held) (r .count);
     }
 
--- the receiver's answers, as it is lent to, and its calls
-abbrev pub servingC : (box : ServesC) (in-hold : Holding) (by : Lending 3) (i : ℕ) (st : State) (piece : List ℕ) → Good 1024 st
-    → ServingC (by .lifetimes i) (in-hold .hold i (st .hold)) (st .held) (st .skipped) (by .piece i piece) (by .out i)
-servingC box in-hold by i st piece g =
-    box i (by .lifetimes i) (in-hold .hold i (st .hold)) (st .held) (st .skipped) (by .piece i piece) (by .out i)
-    (subst (λ (l : List ℕ). Good 1024 (lent l (st .held) (st .skipped))) (sym (in-hold .is-hold i (st .hold))) g)
+-- what is seen of a receiver's call, as it is lent to
+abbrev pub seenOf : (box : Serves receive.Post) (in-hold : Holding) (by : Lending 3) (i : ℕ) (st : State) (piece : List ℕ) → Good 1024 st → Shown HeardC
+seenOf box in-hold by i st piece g =
+    let a = serving receive.Post box in-hold by i st piece g in
+    shownC (a .answer) (now (a .kept)) (now (a .left))
 
-abbrev pub callsC : ServesC → Holding → Lending 3 → Calls HeardC
-callsC box in-hold by i st piece s =
-    (g : Good 1024 st) ×
-    (s ≡ shownC (servingC box in-hold by i st piece g .answer) (now (servingC box in-hold by i st piece g .kept)) (now (servingC box in-hold by i st piece g .left)))
+abbrev pub callsC : Serves receive.Post → Holding → Lending 3 → Calls HeardC
+callsC box in-hold by i st piece s = (g : Good 1024 st) × (s ≡ seenOf box in-hold by i st piece g)
 
 -- what is seen of the definition's answer that is no refusal
 seen : (st : State) (piece : List ℕ) (a : Answer) → GoesOn 1024 st piece a
@@ -117,7 +101,7 @@ module _ (κs : Lfts 3) (hold h : RefT (List ℕ)) (held count : ℕ) (piece out
       })
 
 -- DEMAND 3, of every receiver that meets `trawnosz_receive`'s contract, from the hold that `trawnosz_fresh` makes
-pub demand-3-c : (box : ServesC) (in-hold : Holding) (by : Lending 3) (κs : Lfts 1) (row hold : RefT (List ℕ)) (r : _) → made.Post κs (row, tt) r (hold, tt)
+pub demand-3-c : (box : Serves receive.Post) (in-hold : Holding) (by : Lending 3) (κs : Lfts 1) (row hold : RefT (List ℕ)) (r : _) → made.Post κs (row, tt) r (hold, tt)
     → (pieces : List (List ℕ))
     → CutAnywhere 1024 (callsC box in-hold by) (lent (now hold) 0 0) pieces (reading 1024 0 0 (joined pieces)) (map heardTo (reading 1024 0 0 (joined pieces) .heard))
 unfolding room
@@ -132,11 +116,9 @@ demand-3-c box in-hold by κs row hold r e pieces =
     })
     (by .roomy) pieces)
   where
-    right : (i : ℕ) (st : State) (piece : List ℕ) (g : Good 1024 st)
-        → shownC (servingC box in-hold by i st piece g .answer) (now (servingC box in-hold by i st piece g .kept)) (now (servingC box in-hold by i st piece g .left))
-        ≡ shown heardTo (called 1024 st piece (now (by .out i)))
+    right : (i : ℕ) (st : State) (piece : List ℕ) (g : Good 1024 st) → seenOf box in-hold by i st piece g ≡ shown heardTo (called 1024 st piece (now (by .out i)))
     right i st piece g =
-        let a = servingC box in-hold by i st piece g in
+        let a = serving receive.Post box in-hold by i st piece g in
         shown-is (by .lifetimes i) (in-hold .hold i (st .hold)) (a .kept) (st .held) (st .skipped) (by .piece i piece) (by .out i) (a .left) (a .answer)
         (subst (λ (l : List ℕ). Good 1024 (lent l (st .held) (st .skipped))) (sym (in-hold .is-hold i (st .hold))) g) (by .roomy i) (a .meets)
         ∙ (λ n. shown heardTo (called 1024 (lent (in-hold .is-hold i (st .hold) n) (st .held) (st .skipped)) (by .is-piece i piece n) (now (by .out i))))
@@ -191,7 +173,7 @@ c-counted stream =
     omega (arith, counted-same (reading 1024 0 0 stream .heard) (heard-taken 1024 stream), accounts 1024 0 0 stream (omega arith))
 
 -- the contract can be met: by the definition's answers
-pub definition-serves : ServesC
+pub definition-serves : Serves receive.Post
 definition-serves i κs hold held count piece out g =
     let a = called 1024 (lent (now hold) held count) (now piece) (now out) in
     record { answer = servedTo (servedOf a); kept = at-last hold (a .state .hold); left = at-last out (a .out); meets = (refl, (refl, refl)) }
