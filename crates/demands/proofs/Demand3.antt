@@ -6,14 +6,14 @@ use contract.Lifetimes.{Lfts}
 use denote.Ref.{RefT, now}
 use mathlib.Core.Bool.{true}
 use mathlib.Core.List.{List, [], _∷_, map, List·Memᴰ}
-use mathlib.Core.Path.{_≡_, ap, subst}
+use mathlib.Core.Path.{_≡_, sym, ap, subst, _∙_}
 use lib.ListN.{length}
 use Rattle.frame.specs.Frame.{frameTests}
 use Rattle.reading.specs.Values.{PACKET, told}
 use Rattle.reading.specs.Finding.{Reading, reading}
 use Rattle.reading.specs.declared.Event.the-variants.{Packet}
 use Rattle.reading.specs.Calls.{State}
-use Rattle.reading.specs.Offers.{joined}
+use Rattle.reading.specs.Offers.{joined, stateOf}
 use Rattle.reading.proofs.Call.{Good}
 use Rattle.reading.proofs.Demand.{GoesOn}
 use Rattle.reading.proofs.Frames.{framed-heard}
@@ -42,6 +42,21 @@ pub cut-anywhere : (box : Serves c-receive.Post) (in-hold : Holding) (by : Lendi
     → CutAnywhere 1024 (stream.callsC box in-hold by) (lent (now hold) 0 0) pieces (reading 1024 0 0 (joined pieces))
     (map stream.heardTo (reading 1024 0 0 (joined pieces) .heard))
 cut-anywhere = stream.demand-3-c
+
+-- "each modem release cuts the line differently, and putting one back must not alter what the centre hears": of two receivers, however each is lent to
+pub cut-otherwise : (box box' : Serves c-receive.Post) (in-hold in-hold' : Holding) (by by' : Lending 3) (κs κs' : Lfts 1)
+    (row hold row' hold' : RefT (List ℕ)) (r r' : _) → c-fresh.Post κs (row, tt) r (hold, tt) → c-fresh.Post κs' (row', tt) r' (hold', tt)
+    → (pieces pieces' : List (List ℕ)) → joined pieces ≡ joined pieces'
+    → (hs hs' : List stream.HeardC) (end end' : State) (n n' : ℕ)
+    → Streaming (stream.callsC box in-hold by) 0 (lent (now hold) 0 0) pieces hs end n
+    → Streaming (stream.callsC box' in-hold' by') 0 (lent (now hold') 0 0) pieces' hs' end' n'
+    → (hs ≡ hs') × (end ≡ end')
+cut-otherwise box box' in-hold in-hold' by by' κs κs' row hold row' hold' r r' made made' pieces pieces' e hs hs' end end' n n' run run' =
+    let one = cut-anywhere box in-hold by κs row hold r made pieces .no-other hs end n run in
+    let two = cut-anywhere box' in-hold' by' κs' row' hold' r' made' pieces' .no-other hs' end' n' run' in (
+      one .0 ∙ ap (λ (l : List ℕ). map stream.heardTo (reading 1024 0 0 l .heard)) e ∙ sym (two .0),
+      one .1 ∙ ap (λ (l : List ℕ). stateOf 1024 (reading 1024 0 0 l)) e ∙ sym (two .1),
+    )
 
 -- the contract can be met, so that this is said of some receiver
 pub can-be-met : Serves c-receive.Post

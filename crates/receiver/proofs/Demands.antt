@@ -113,7 +113,7 @@ pub record Serving {R : Type 0} (Post : Lfts 3 → Lent → R → Lent → Type 
   pub left : RefT (List ℕ)
   pub meets : Post κs (hold, (held, (skipped, (piece, (out, tt))))) answer (kept, (held, (skipped, (piece, (left, tt)))))
 
--- a receiver that meets a call's contract
+-- a receiver that meets a call's contract: its i-th call is answered from every state that keeps the rules, whatever the piece and the buffer
 abbrev pub Serves : {R : Type 0} → (Lfts 3 → Lent → R → Lent → Type 0) → Type 0
 Serves Post = (i : ℕ) (κs : Lfts 3) (hold : RefT (List ℕ)) (held skipped : ℕ) (piece out : RefT (List ℕ)) → Good 1024 (lent (now hold) held skipped)
     → Serving Post κs hold held skipped piece out
