@@ -1,15 +1,14 @@
 -- Demand 1 of the tender: what is refused leaves state and lent memory as they were; last one list of the calls that a box links, each over
 -- its own contract. Assumes nothing.
-use Prim.Native.Nat.{ℕ, suc, _+_, _-_, _≤_, _<_}
+use Prim.Native.Nat.{ℕ, _+_, _-_, _≤_, _<_}
 use native.Mathlib.Omega.{arith}
-use mathlib.Core.Bool.{Bool, true, false, cond}
-use mathlib.Core.List.{List, [], _∷_, _++_}
+use mathlib.Core.Bool.{Bool, true, false, cond, false≢true}
+use mathlib.Core.List.{List, _++_}
 use mathlib.Core.Logic.{_⊎_, ⊎-elim}
 use mathlib.Core.Path.{_≡_, refl, sym, ap, subst, _∙_}
 use denote.Ref.{RefT, now}
 use borrow.Author.Tests.{lt-leb, leb-true}
-use lib.Dec.{leb, eqb}
-use lib.ListN.{length, getD, take, drop, replicate, take-append-drop}
+use lib.ListN.{length, take, drop, replicate, take-append-drop}
 use Rattle.exchange.specs.declared.Exchanges.{Exchanges}
 use Rattle.exchange.specs.Calls.{Call, verdictOf, after}
 use Rattle.exchange.specs.declared.Begun.{Begun}
@@ -22,7 +21,7 @@ use Rattle.exchange.specs.Table.{blank, made, begun}
 use Rattle.exchange.specs.Table as exchanges
 use Rattle.exchange.proofs.Changes.{refused-same, begin-refused, reply-refused, tick-refused}
 use Rattle.fields.specs.declared.Fields.{Fields}
-use Rattle.frame.specs.Frame.{room, packetLength, unitLength, ended, summed}
+use Rattle.frame.specs.Frame.{room}
 use Rattle.kinds.specs.Table.{table, rows}
 use Rattle.label.specs.declared.Label.{Label}
 use Rattle.objects.specs.Writing.{writeVerdict, writtenUnit}
@@ -38,16 +37,14 @@ use Rattle.place.specs.declared.Reply.the-variants.{Confirm, Answer, Deny, BadA
 use Rattle.place.specs.Steps.{NOTHING}
 use Rattle.places.specs.Rows.{nothing}
 use Rattle.reading.specs.declared.Event.the-variants.{Refused}
-use Rattle.reading.specs.declared.Standing.{Standing}
-use Rattle.reading.specs.declared.Standing.the-variants.{Wait, Skip, Hit}
 use Rattle.reading.specs.Values.{told}
-use Rattle.reading.specs.Standing.{judgedFrame, started, stands}
-use Rattle.reading.specs.Finding.{noiseAt, onward, more, noise, hit, found, first}
+use Rattle.reading.specs.Finding.{first}
 use Rattle.reading.specs.Calls.{State, heldBytes, sound, callTests, answerBy, called}
 use Rattle.reading.specs.Calls.{Answer as Called}
-use Rattle.reading.proofs.Stands.{there-any, choice-any}
 use Rattle.reading.proofs.Call.{call-refused}
 use Rattle.reading.proofs.Demand.{call-good}
+use Rattle.reading.proofs.Events.{refuses, first-taken, number-taken}
+use Rattle.reading.specs.declared.Event.{Event}
 use Rattle.receiver.specs.Receivers.{lent, servedOf}
 use Rattle.reply.specs.Replies.{commandFor, replyVerdict, answered, writtenReply}
 use Rattle.trawnosz.specs.declared.AnswerC.{AnswerC}
@@ -70,7 +67,7 @@ use Rattle.trawnosz.proofs.trawnosz_write_text.Reads as write-text
 use Rattle.trawnosz.specs.Calls.{servedTo}
 use Rattle.verdict.specs.declared.Verdict.{Verdict}
 use Rattle.verdict.specs.Orders.{inOrder, refusal, good, isGood}
-use Rattle.verdict.specs.Refusals.{STATE, ROOM, LENGTH}
+use Rattle.verdict.specs.Refusals.{STATE, ROOM}
 use Rattle.verdict.proofs.Order.{passed, failed, good-held, goes-on}
 
 -- DEMAND 1: "What it will not take it refuses by number; the state comes back as it was given and the lent memory is untouched."
@@ -128,45 +125,6 @@ not-made : (t m : ℕ) → isGood (made t m .verdict) ≡ false → made t m .st
 unfolding made
 not-made t m e = simp e
 
--- what the reading finds has other numbers than a refused call's STATE and ROOM
-abbrev Numbered : Standing → Type 0
-Numbered Wait = Unit
-Numbered (Skip k) = Unit
-Numbered (Hit e k p) = LENGTH ≤ told e .number
-
-numbered : (M : ℕ) (xs : List ℕ) → Numbered (stands M xs)
-unfolding stands started judgedFrame told
-numbered M xs =
-    there-any Numbered 1 xs _ (λ _. tt)
-    (λ _. choice-any Numbered (eqb (getD xs 0 0) 64) _ _
-    (λ _. there-any Numbered 2 xs _ (λ _. tt)
-    (λ _. choice-any Numbered (eqb (getD xs 1 0) 64) _ _
-    (λ _. there-any Numbered 26 xs _ (λ _. tt)
-    (λ _. choice-any Numbered (leb (unitLength xs) M) _ _
-    (λ _. there-any Numbered (packetLength (unitLength xs)) xs _ (λ _. tt)
-    (λ _. choice-any Numbered (ended (unitLength xs) xs) _ _
-    (λ _. choice-any Numbered (summed (unitLength xs) xs) _ _ (λ _. omega arith) (λ _. omega arith))
-    (λ _. omega arith)))
-    (λ _. omega arith)))
-    (λ _. tt)))
-    (λ _. tt))
-
-found-number : (M s : ℕ) (xs : List ℕ) → LENGTH ≤ told (first M s xs .event) .number
-unfolding first found more noise onward hit told
-found-number M s [] = omega arith
-found-number M s (x ∷ xs) = by-case (stands M (x ∷ xs)) (numbered M (x ∷ xs)) (found-number M (suc s) xs)
-  where
-    by-test : (k : ℕ) (t : Bool) → LENGTH ≤ told (first M (suc s) xs .event) .number
-        → LENGTH ≤ told (cond t (noise k) (onward (first M (suc s) xs)) .event) .number
-    by-test k true h = omega arith
-    by-test k false h = h
-
-    by-case : (v : Standing) → Numbered v → LENGTH ≤ told (first M (suc s) xs .event) .number
-        → LENGTH ≤ told (found v s (length (x ∷ xs)) (first M (suc s) xs) .event) .number
-    by-case Wait n h = omega arith
-    by-case (Skip k) n h = by-test k (eqb (suc s) noiseAt) h
-    by-case (Hit e k p) n h = n
-
 -- THE LIST: each call that a box links, whatever answer meets its contract.
 -- These take no state and are lent nothing to write in:
 -- trawnosz_judge_packet, trawnosz_read_packet, trawnosz_unit_place, trawnosz_judge_unit, trawnosz_judge_unit_under, trawnosz_object_place,
@@ -198,12 +156,9 @@ module _ (κs : _) (hold h : RefT (List ℕ)) (held count : ℕ) (piece out o : 
 
   -- a box knows a refused call by its event
   pub refused-receive : (r .event ≡ STATE) ⊎ (r .event ≡ ROOM) → (r ≡ notServed (r .event) held count) × (now h ≡ now hold) × (now o ≡ now out)
-  unfolding answerBy
+  unfolding answerBy refuses
   refused-receive which = by-test (isGood (inOrder (callTests 1024 st (now out)) good)) refl
     where
-      low : r .event < LENGTH
-      low = ⊎-elim (λ e. omega arith) (λ e. omega arith) which
-
       by-test : (b : Bool) → isGood (inOrder (callTests 1024 st (now out)) good) ≡ b
           → (r ≡ notServed (r .event) held count) × (now h ≡ now hold) × (now o ≡ now out)
       by-test false g =
@@ -212,8 +167,11 @@ module _ (κs : _) (hold h : RefT (List ℕ)) (held count : ℕ) (piece out o : 
       by-test true g =
           let k = good-held (callTests 1024 st (now out)) good refl g .0 in
           let c = call-good 1024 st (now piece) (now out) (k .0) (leb-true (room 1024) (length (now out)) (k .1 .0)) in
-          let n : r .event ≡ told (called 1024 st (now piece) (now out) .event) .number = ap (λ (a : ServedC). a .event) (p .0) in
-          absurd (omega (arith, low, n ∙ ap (λ (a : Called). told (a .event) .number) c, found-number 1024 count (heldBytes st ++ now piece)))
+          let e : Event = first 1024 count (heldBytes st ++ now piece) .event in
+          let n : r .event ≡ told e .number = ap (λ (a : ServedC). a .event) (p .0) ∙ ap (λ (a : Called). told (a .event) .number) c in
+          let none : refuses e ≡ false = first-taken 1024 count (heldBytes st ++ now piece) in
+          let other = number-taken e (λ m q. false≢true (sym none ∙ ap refuses q)) in
+          absurd (⊎-elim (λ q. other .0 (sym n ∙ q)) (λ q. other .1 (sym n ∙ q)) which)
 
 -- trawnosz_write_packet
 pub refused-write-packet : (κs : _) (out o : RefT (List ℕ)) (h : Header) (l : ℕ) (r : Verdict)
