@@ -8,17 +8,20 @@ flags=(-std=c11 -O2 -Wall -Wextra -Werror -I "$root/tests/independent" -I "$root
 gate_seed=26875
 gate_count=400000
 
-# compile DIRECTORY NAME...: makes those objects of tests/DIRECTORY that are missing or older than their source or a header,
-# and adds all of them to the array `objects`.
+# compile DIRECTORY NAME...: makes those objects of tests/DIRECTORY that are not of this source, these headers, flags and
+# compiler, by content, and adds all of them to the array `objects`.
 compile() {
-    local directory=$1 name source object headers=("$root"/tests/*/*.h "$root"/include/*.h)
+    local directory=$1 name source object sum headers=("$root"/tests/*/*.h "$root"/include/*.h)
     shift
     mkdir -p "$built/$directory"
     for name in "$@"; do
         source=$root/tests/$directory/$name.c
         object=$built/$directory/$name.o
-        if [ ! -e "$object" ] || [ -n "$(find "$source" "${headers[@]}" -newer "$object" -print -quit)" ]; then
+        sum=$({ "${cc[@]}" --version; printf '%s\n' "${flags[@]}"; sha256sum "$source" "${headers[@]}"; } | sha256sum)
+        if [ ! -e "$object" ] || [ "$(cat "$object.built" 2>/dev/null)" != "$sum" ]; then
+            rm -f "$object.built"
             "${cc[@]}" "${flags[@]}" -c "$source" -o "$object"
+            printf '%s\n' "$sum" >"$object.built"
         fi
         objects+=("$object")
     done

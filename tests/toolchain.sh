@@ -9,26 +9,37 @@ install_packages() {
     "${sudo[@]}" apt-get -qq update && "${sudo[@]}" env DEBIAN_FRONTEND=noninteractive apt-get -qq install -y "$@"
 }
 
-# need PACKAGE...: installs those of the named Debian packages that are missing.
+# need PACKAGE...: installs those of the named Debian packages that are missing, and says so.
 need() {
     local package missing=()
     for package in "$@"; do
         dpkg -s "$package" 2>/dev/null | grep '^Status: .* installed$' >/dev/null || missing+=("$package")
     done
     [ ${#missing[@]} -gt 0 ] || return 0
+    printf 'installing Debian packages: %s\n' "${missing[*]}" >&2
     if ! install_packages "${missing[@]}" </dev/null >/dev/null 2>&1; then
         printf 'cannot install the Debian packages that are needed: %s\n' "${missing[*]}" >&2
         return 1
     fi
 }
 
+# compiles COMPILER: whether it is here and makes a program.
+compiles() {
+    local made
+    made=$(mktemp) && printf '#include <stdio.h>\nint main(void) { return puts("") < 0; }\n' | "$1" -x c - -o "$made" 2>/dev/null
+    local status=$?
+    rm -f "$made"
+    return $status
+}
+
 # The archive holds x86-64 code: elsewhere it is linked by Debian's cross compiler and run by its emulator.
 if [ "$(uname -m)" = x86_64 ]; then
-    need gcc libc6-dev
+    compiles gcc || need gcc libc6-dev
     cc=(gcc)
     run=()
 else
-    need gcc-x86-64-linux-gnu libc6-dev-amd64-cross qemu-user
+    compiles x86_64-linux-gnu-gcc || need gcc-x86-64-linux-gnu libc6-dev-amd64-cross
+    command -v qemu-x86_64 >/dev/null || need qemu-user
     cc=(x86_64-linux-gnu-gcc)
     run=(qemu-x86_64 -L /usr/x86_64-linux-gnu)
 fi
@@ -36,23 +47,13 @@ fi
 # Where the library's archive is: the repository's own, or the one that TRAWNOSZ_ARCHIVE names.
 library=${TRAWNOSZ_ARCHIVE:-$root/target/staticlib/libtrawnosz.a}
 
-# Makes the archive where it is missing or older than its source; shows what rt said only where it fails.
+source "$root/scripts/built.sh"
+
+# Makes the archive where it is not of these sources; shows what rt said only where it fails.
 archive() {
     if [ -n "${TRAWNOSZ_ARCHIVE:-}" ]; then
         [ -r "$library" ] || { printf 'TRAWNOSZ_ARCHIVE names no file: %s\n' "$library" >&2; return 1; }
         return 0
     fi
-    if [ -e "$library" ] && [ -z "$(find "$root/crates.txt" "$root/crates" -newer "$library" -print -quit)" ]; then
-        return 0
-    fi
-    if ! command -v rt >/dev/null; then
-        printf 'the command rt of the Rattle kit is needed and is not on the PATH\n' >&2
-        return 1
-    fi
-    local said
-    if ! said=$(cd "$root" && rt staticlib trawnosz </dev/null 2>&1) || [ ! -e "$library" ]; then
-        printf '%s\nthe library could not be built\n' "$said" >&2
-        return 1
-    fi
-    touch "$library"
+    is_built "$library" || build_by_rt "$library" staticlib trawnosz || { printf 'the library could not be built\n' >&2; return 1; }
 }
