@@ -20,10 +20,10 @@ is_built() {
     [ "$sources" = "$(sources_sum)" ] && { [ -z "$here" ] || [ "$kit" = "$here" ]; }
 }
 
-# build_by_rt FILE WORDS...: has `rt WORDS...` make FILE; the stamp stands only behind a build that succeeded, and is of the sources
-# that stood when it began.
+# build_by_rt FILE WORDS...: has `rt WORDS...` make FILE, its progress on standard error; the stamp stands only behind a build that
+# succeeded, and is of the sources that stood when it began.
 build_by_rt() {
-    local file=$1 said sum
+    local file=$1 sum
     shift
     if ! command -v rt >/dev/null; then
         printf 'the command rt of the Rattle kit is needed and is not on the PATH\n' >&2
@@ -33,9 +33,6 @@ build_by_rt() {
     # rt links only what it proves anew, which it decides by content too: what was removed is proved again.
     [ -e "$file" ] || rm -f "$root/target/stamp/$2"
     sum=$(sources_sum)
-    if ! said=$(cd "$root" && rt "$@" </dev/null 2>&1) || [ ! -e "$file" ]; then
-        printf '%s\n' "$said" >&2
-        return 1
-    fi
+    (cd "$root" && rt "$@" </dev/null >&2) && [ -e "$file" ] || return 1
     printf '%s\n%s\n' "$sum" "$(kit_identity)" >"$file.built"
 }

@@ -55,5 +55,9 @@ archive() {
         [ -r "$library" ] || { printf 'TRAWNOSZ_ARCHIVE names no file: %s\n' "$library" >&2; return 1; }
         return 0
     fi
-    is_built "$library" || build_by_rt "$library" staticlib trawnosz || { printf 'the library could not be built\n' >&2; return 1; }
+    local said
+    is_built "$library" || said=$(build_by_rt "$library" staticlib trawnosz 2>&1) || {
+        printf '%s\nthe library could not be built\n' "$said" >&2
+        return 1
+    }
 }
