@@ -34,19 +34,19 @@ int same_verdict(trawnosz_verdict a, trawnosz_verdict b)
     return a.number == b.number && a.place == b.place;
 }
 
-int same_part(trawnosz_part a, trawnosz_part b)
+int same_part(trawnosz_found a, trawnosz_found b)
 {
     return same_verdict(a.verdict, b.verdict) && a.from == b.from && a.to == b.to;
 }
 
 const trawnosz_label sample_label = {0, 30, 8, 15, 6, 24};
-const trawnosz_header sample_header = {5, 0, {0, 30, 8, 15, 6, 24}, {1}, {2}, TRAWNOSZ_CONFIRM};
+const trawnosz_header sample_header = {5, 0, {0, 30, 8, 15, 6, 24}, {1}, {2}, TRAWNOSZ_COMMAND_CONFIRM};
 
 size_t make_unit(uint8_t *unit, uint8_t type, uint8_t n, size_t size)
 {
     static const uint8_t text[TRAWNOSZ_DESCRIPTION_BYTES] = "north stack, upper shelves, 3";
     size_t length = 2 + n * size;
-    int described = type == TRAWNOSZ_PART_STATE || type == TRAWNOSZ_PART_CONFIGURATION;
+    int described = type == TRAWNOSZ_TYPE_PART_STATE || type == TRAWNOSZ_TYPE_PART_CONFIGURATION;
     memset(unit, 0, length);
     unit[0] = type;
     unit[1] = n;

@@ -24,7 +24,7 @@ unsigned row(const char *name, size_t bytes, const char *targets);
 void agree(int same);
 
 int same_verdict(trawnosz_verdict a, trawnosz_verdict b);
-int same_part(trawnosz_part a, trawnosz_part b);
+int same_part(trawnosz_found a, trawnosz_found b);
 
 extern const trawnosz_label sample_label;
 extern const trawnosz_header sample_header;

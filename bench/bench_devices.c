@@ -38,9 +38,9 @@ static void find(const char *name, size_t length, const uint8_t *seven)
     uint32_t at = seven[3] | (uint32_t)seven[4] << 8 | (uint32_t)seven[5] << 16 | (uint32_t)seven[6] << 24;
     trawnosz_key key = {.system = seven[0], .address = seven[1], .part = seven[2], .part_address = at};
     unsigned number = row(name, length, NOT_ABOVE_TWIN);
-    trawnosz_part ours, plain;
-    MEASURE(REGION(number, OURS), ours = trawnosz_find_place(table, length, key));
-    MEASURE(REGION(number, PLAIN), plain = twin_find_place(table, length, seven));
+    trawnosz_found ours, plain;
+    MEASURE(REGION(number, OURS), ours = trawnosz_find_part(table, length, key));
+    MEASURE(REGION(number, PLAIN), plain = twin_find_part(table, length, seven));
     agree(same_part(ours, plain));
 }
 
@@ -54,7 +54,7 @@ void bench_devices(void)
     judge("judge_table: 32 systems, 512 parts", make_table(32, 512));
     size_t length = make_table(64, 1024);
     judge("judge_table: 64 systems, 1,024 parts", length);
-    find("find_place: 64 systems, 1,024 parts, first part", length, table + 4 + 2 * 64);
-    find("find_place: 64 systems, 1,024 parts, last part", length, table + length - 38);
-    find("find_place: 64 systems, 1,024 parts, unlisted", length, unlisted);
+    find("find_part: 64 systems, 1,024 parts, first part", length, table + 4 + 2 * 64);
+    find("find_part: 64 systems, 1,024 parts, last part", length, table + length - 38);
+    find("find_part: 64 systems, 1,024 parts, unlisted", length, unlisted);
 }

@@ -7,7 +7,7 @@ static void same_tables(void)
 {
     agree(ours.next == plain.next && ours.timeout == plain.timeout && ours.resends == plain.resends);
     for (size_t i = 0; i < TRAWNOSZ_EXCHANGES; i++) {
-        const trawnosz_place *a = &ours.places[i], *b = &plain.places[i];
+        const trawnosz_exchange *a = &ours.places[i], *b = &plain.places[i];
         agree(a->serial == b->serial && a->mode == b->mode && a->resends == b->resends && a->age == b->age);
     }
 }
@@ -45,7 +45,7 @@ static void begin(const char *name, trawnosz_begun (*library)(trawnosz_exchanges
     twin_begun b;
     MEASURE(REGION(number, OURS), a = library(ours); ours = a.state);
     MEASURE(REGION(number, PLAIN), b = twin(&plain));
-    agree(same_verdict(a.verdict, b.verdict) && a.place == b.place && a.serial == b.serial);
+    agree(same_verdict(a.verdict, b.verdict) && a.exchange_place == b.place && a.serial == b.serial);
     same_tables();
 }
 
@@ -57,7 +57,7 @@ static void reply(const char *name, trawnosz_replied (*library)(trawnosz_exchang
     twin_replied b;
     MEASURE(REGION(number, OURS), a = library(ours, serial); ours = a.state);
     MEASURE(REGION(number, PLAIN), b = twin(&plain, serial));
-    agree(same_verdict(a.verdict, b.verdict) && a.place == b.place && a.outcome == b.outcome);
+    agree(same_verdict(a.verdict, b.verdict) && a.exchange_place == b.place && a.outcome == b.outcome);
     same_tables();
 }
 

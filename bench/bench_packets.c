@@ -5,14 +5,14 @@ static uint8_t packet[TRAWNOSZ_LONGEST_PACKET];
 
 static size_t with_units(uint8_t type, uint8_t n, size_t size)
 {
-    return make_packet(packet, TRAWNOSZ_SEND, make_unit(packet + 27, type, n, size));
+    return make_packet(packet, TRAWNOSZ_COMMAND_SEND, make_unit(packet + 27, type, n, size));
 }
 
 /* A packet of which only frame and sum are judged, since its version is wrong. */
 static size_t of_version_2(size_t unit)
 {
     memset(packet + 27, 7, unit);
-    size_t length = make_packet(packet, TRAWNOSZ_SEND, unit);
+    size_t length = make_packet(packet, TRAWNOSZ_COMMAND_SEND, unit);
     packet[4] = 2;
     packet[27 + unit]++;
     return length;
@@ -43,9 +43,9 @@ static void read(const char *name, size_t length)
 static void place(const char *name, size_t length)
 {
     unsigned number = row(name, length, NOT_ABOVE_TWIN);
-    trawnosz_part ours, plain;
-    MEASURE(REGION(number, OURS), ours = trawnosz_unit_place(packet, length));
-    MEASURE(REGION(number, PLAIN), plain = twin_unit_place(packet, length));
+    trawnosz_found ours, plain;
+    MEASURE(REGION(number, OURS), ours = trawnosz_find_unit(packet, length));
+    MEASURE(REGION(number, PLAIN), plain = twin_find_unit(packet, length));
     agree(same_part(ours, plain));
 }
 
@@ -62,7 +62,7 @@ static void answer(const char *name, size_t length)
 
 static void bench_judge(void)
 {
-    judge("judge_packet: 30 bytes, a confirm", make_packet(packet, TRAWNOSZ_CONFIRM, 0));
+    judge("judge_packet: 30 bytes, a confirm", make_packet(packet, TRAWNOSZ_COMMAND_CONFIRM, 0));
     judge("judge_packet: 39 bytes, type 21", with_units(21, 1, 7));
     judge("judge_packet: 282 bytes, 25 of type 1", with_units(1, 25, 10));
     judge("judge_packet: 542 bytes, 51 of type 1", with_units(1, 51, 10));
@@ -78,12 +78,12 @@ void bench_packets(void)
 {
     section("Packets");
     bench_judge();
-    read("read_packet: 30 bytes, a confirm", make_packet(packet, TRAWNOSZ_CONFIRM, 0));
+    read("read_packet: 30 bytes, a confirm", make_packet(packet, TRAWNOSZ_COMMAND_CONFIRM, 0));
     read("read_packet: 39 bytes, type 21", with_units(21, 1, 7));
     read("read_packet: 1,052 bytes, 102 of type 1", with_units(1, 102, 10));
-    place("unit_place: 39 bytes, type 21", with_units(21, 1, 7));
-    place("unit_place: 1,052 bytes, 102 of type 1", with_units(1, 102, 10));
-    answer("answer_to: 30 bytes, a confirm, no reply", make_packet(packet, TRAWNOSZ_CONFIRM, 0));
+    place("find_unit: 39 bytes, type 21", with_units(21, 1, 7));
+    place("find_unit: 1,052 bytes, 102 of type 1", with_units(1, 102, 10));
+    answer("answer_to: 30 bytes, a confirm, no reply", make_packet(packet, TRAWNOSZ_COMMAND_CONFIRM, 0));
     answer("answer_to: 39 bytes, type 21, confirmed", with_units(21, 1, 7));
     answer("answer_to: 30 bytes of version 2, denied", of_version_2(0));
     answer("answer_to: 1,052 bytes, 102 of type 1, confirmed", with_units(1, 102, 10));

@@ -66,7 +66,7 @@ static size_t packets(size_t count, size_t unit, uint8_t byte, uint8_t wrong)
     for (size_t i = 0; i < count; i++) {
         uint8_t *packet = stream + length;
         memset(packet + 27, byte, unit);
-        length += make_packet(packet, TRAWNOSZ_SEND, unit);
+        length += make_packet(packet, TRAWNOSZ_COMMAND_SEND, unit);
         packet[27 + unit] += wrong;
     }
     return length;

@@ -21,12 +21,12 @@ static void judge_under(const char *name, size_t length, uint8_t command)
     agree(same_verdict(ours, plain));
 }
 
-typedef trawnosz_part finder(const uint8_t *unit, size_t unit_length, size_t number);
+typedef trawnosz_found finder(const uint8_t *unit, size_t unit_length, size_t number);
 
 static void place(const char *name, finder *library, finder *twin, size_t length, size_t object)
 {
     unsigned number = row(name, length, NOT_ABOVE_TWIN);
-    trawnosz_part ours, plain;
+    trawnosz_found ours, plain;
     MEASURE(REGION(number, OURS), ours = library(unit, length, object));
     MEASURE(REGION(number, PLAIN), plain = twin(unit, length, object));
     agree(same_part(ours, plain));
@@ -34,12 +34,12 @@ static void place(const char *name, finder *library, finder *twin, size_t length
 
 static void object(const char *name, size_t length, size_t number)
 {
-    place(name, trawnosz_object_place, twin_object_place, length, number);
+    place(name, trawnosz_find_object, twin_find_object, length, number);
 }
 
 static void description(const char *name, size_t length, size_t number)
 {
-    place(name, trawnosz_description_place, twin_description_place, length, number);
+    place(name, trawnosz_find_description, twin_find_description, length, number);
 }
 
 static void read(const char *name, size_t length, size_t object)
@@ -70,17 +70,17 @@ static void bench_judge(void)
     judge("judge_unit: 990 bytes, 26 of type 7", make_unit(unit, 7, 26, 38));
     judge("judge_unit: 258 bytes, type 26", text_unit(255));
     judge("judge_unit: 8 bytes, type 90", make_unit(unit, 90, 1, 6));
-    judge_under("judge_unit_under: 9 bytes, type 21", make_unit(unit, 21, 1, 7), TRAWNOSZ_SEND);
-    judge_under("judge_unit_under: 1,022 bytes, 102 of type 1", make_unit(unit, 1, 102, 10), TRAWNOSZ_ANSWER);
+    judge_under("judge_unit_under: 9 bytes, type 21", make_unit(unit, 21, 1, 7), TRAWNOSZ_COMMAND_SEND);
+    judge_under("judge_unit_under: 1,022 bytes, 102 of type 1", make_unit(unit, 1, 102, 10), TRAWNOSZ_COMMAND_ANSWER);
 }
 
 void bench_units(void)
 {
     section("Units and objects");
     bench_judge();
-    object("object_place: type 21", make_unit(unit, 21, 1, 7), 0);
-    object("object_place: first of 22 of type 2", make_unit(unit, 2, 22, 46), 0);
-    object("object_place: last of 22 of type 2", make_unit(unit, 2, 22, 46), 21);
+    object("find_object: type 21", make_unit(unit, 21, 1, 7), 0);
+    object("find_object: first of 22 of type 2", make_unit(unit, 2, 22, 46), 0);
+    object("find_object: last of 22 of type 2", make_unit(unit, 2, 22, 46), 21);
     read("read_object: type 21", make_unit(unit, 21, 1, 7), 0);
     read("read_object: one of type 2", make_unit(unit, 2, 1, 46), 0);
     read("read_object: first of 22 of type 2", make_unit(unit, 2, 22, 46), 0);
@@ -89,7 +89,7 @@ void bench_units(void)
     read("read_object: last of 102 of type 1", make_unit(unit, 1, 102, 10), 101);
     read("read_object: last of 26 of type 7", make_unit(unit, 7, 26, 38), 25);
     read("read_object: last of 22 of type 62", make_unit(unit, 62, 22, 6), 21);
-    description("description_place: one of type 2", make_unit(unit, 2, 1, 46), 0);
-    description("description_place: last of 22 of type 2", make_unit(unit, 2, 22, 46), 21);
-    description("description_place: type 26, 255 bytes of text", text_unit(255), 0);
+    description("find_description: one of type 2", make_unit(unit, 2, 1, 46), 0);
+    description("find_description: last of 22 of type 2", make_unit(unit, 2, 22, 46), 21);
+    description("find_description: type 26, 255 bytes of text", text_unit(255), 0);
 }

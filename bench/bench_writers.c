@@ -94,8 +94,8 @@ void bench_writers(void)
     write_text("write_text: no text", 0);
     write_text("write_text: 255 bytes", 255);
     write_packet_text("write_packet_text: 255 bytes", 255);
-    write_packet("write_packet: 30 bytes, a confirm", TRAWNOSZ_CONFIRM, 0);
-    write_packet("write_packet: 39 bytes, type 21", TRAWNOSZ_SEND, units(27, 21, 1, 7));
-    write_packet("write_packet: 542 bytes, 51 of type 1", TRAWNOSZ_SEND, units(27, 1, 51, 10));
-    write_packet("write_packet: 1,052 bytes, 102 of type 1", TRAWNOSZ_SEND, units(27, 1, 102, 10));
+    write_packet("write_packet: 30 bytes, a confirm", TRAWNOSZ_COMMAND_CONFIRM, 0);
+    write_packet("write_packet: 39 bytes, type 21", TRAWNOSZ_COMMAND_SEND, units(27, 21, 1, 7));
+    write_packet("write_packet: 542 bytes, 51 of type 1", TRAWNOSZ_COMMAND_SEND, units(27, 1, 51, 10));
+    write_packet("write_packet: 1,052 bytes, 102 of type 1", TRAWNOSZ_COMMAND_SEND, units(27, 1, 102, 10));
 }

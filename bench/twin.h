@@ -24,7 +24,7 @@ trawnosz_served tuned_receive(twin_receiver *receiver, const uint8_t *piece, siz
 
 trawnosz_verdict twin_judge_packet(const uint8_t *packet, size_t packet_length);
 trawnosz_verdict twin_read_packet(const uint8_t *packet, size_t packet_length, trawnosz_header *header, size_t *length);
-trawnosz_part twin_unit_place(const uint8_t *packet, size_t packet_length);
+trawnosz_found twin_find_unit(const uint8_t *packet, size_t packet_length);
 trawnosz_verdict twin_write_packet(uint8_t *out, size_t out_length, const trawnosz_header *header, size_t length);
 trawnosz_verdict twin_write_packet_object(uint8_t *out, size_t out_length, size_t length, size_t number,
                                           const trawnosz_fields *fields, const uint8_t *description,
@@ -42,9 +42,9 @@ void twin_put_fields(uint8_t *object, const trawnosz_fields *fields);
 
 trawnosz_verdict twin_judge_unit(const uint8_t *unit, size_t unit_length);
 trawnosz_verdict twin_judge_unit_under(const uint8_t *unit, size_t unit_length, uint8_t command);
-trawnosz_part twin_object_place(const uint8_t *unit, size_t unit_length, size_t number);
+trawnosz_found twin_find_object(const uint8_t *unit, size_t unit_length, size_t number);
 trawnosz_verdict twin_read_object(const uint8_t *unit, size_t unit_length, size_t number, trawnosz_fields *fields);
-trawnosz_part twin_description_place(const uint8_t *unit, size_t unit_length, size_t number);
+trawnosz_found twin_find_description(const uint8_t *unit, size_t unit_length, size_t number);
 trawnosz_verdict twin_write_object(uint8_t *unit, size_t unit_length, size_t number, const trawnosz_fields *fields,
                                    const uint8_t *description, size_t description_length);
 trawnosz_verdict twin_write_text(uint8_t *out, size_t out_length, const uint8_t *text, size_t text_length);
@@ -72,6 +72,6 @@ twin_replied twin_reply_bad_answer(trawnosz_exchanges *table, uint16_t serial);
 trawnosz_verdict twin_tick(trawnosz_exchanges *table, trawnosz_report reports[TRAWNOSZ_EXCHANGES]);
 
 trawnosz_table twin_judge_table(const uint8_t *table, size_t table_length);
-trawnosz_part twin_find_place(const uint8_t *table, size_t table_length, const uint8_t key[7]);
+trawnosz_found twin_find_part(const uint8_t *table, size_t table_length, const uint8_t key[7]);
 
 #endif

@@ -14,14 +14,14 @@ typedef struct section {
 static uint8_t open_section(const uint8_t *table, size_t length, size_t *at, size_t most, size_t size, section *s)
 {
     if (length - *at < 2)
-        return TRAWNOSZ_CUT;
+        return TRAWNOSZ_REFUSED_CUT;
     s->count = table[*at] + 256u * table[*at + 1];
     s->entries = table + *at + 2;
     if (s->count > most)
-        return TRAWNOSZ_MANY;
+        return TRAWNOSZ_REFUSED_MANY;
     *at += 2;
     if (length - *at < s->count * size)
-        return TRAWNOSZ_CUT;
+        return TRAWNOSZ_REFUSED_CUT;
     *at += s->count * size;
     return TRAWNOSZ_OK;
 }
@@ -53,19 +53,19 @@ static trawnosz_table judge(const uint8_t *table, size_t length, section *system
         return refused(bad, 0);
     for (size_t i = 0; i < systems->count; i++)
         if (!rises(systems->entries + i * SYSTEM_BYTES, i, SYSTEM_BYTES, SYSTEM_BYTES))
-            return refused(TRAWNOSZ_ORDER, i);
+            return refused(TRAWNOSZ_REFUSED_ORDER, i);
     bad = open_section(table, length, &at, TRAWNOSZ_MOST_PARTS, PART_BYTES, parts);
     if (bad)
         return refused(bad, 0);
     for (size_t i = 0; i < parts->count; i++) {
         const uint8_t *part = parts->entries + i * PART_BYTES;
         if (!rises(part, i, PART_BYTES, KEY_BYTES))
-            return refused(TRAWNOSZ_ORDER, systems->count + i);
+            return refused(TRAWNOSZ_REFUSED_ORDER, systems->count + i);
         if (!is_listed(systems, part))
-            return refused(TRAWNOSZ_ORPHAN, systems->count + i);
+            return refused(TRAWNOSZ_REFUSED_ORPHAN, systems->count + i);
     }
     if (at != length)
-        return refused(TRAWNOSZ_TAIL, 0);
+        return refused(TRAWNOSZ_REFUSED_TAIL, 0);
     trawnosz_table good = {{TRAWNOSZ_OK, 0}, systems->count, parts->count};
     return good;
 }
@@ -76,10 +76,10 @@ trawnosz_table twin_judge_table(const uint8_t *table, size_t table_length)
     return judge(table, table_length, &systems, &parts);
 }
 
-trawnosz_part twin_find_place(const uint8_t *table, size_t table_length, const uint8_t key[7])
+trawnosz_found twin_find_part(const uint8_t *table, size_t table_length, const uint8_t key[7])
 {
     section systems, parts;
-    trawnosz_part part = {judge(table, table_length, &systems, &parts).verdict, 0, 0};
+    trawnosz_found part = {judge(table, table_length, &systems, &parts).verdict, 0, 0};
     if (part.verdict.number)
         return part;
     for (size_t i = 0; i < parts.count; i++) {
@@ -90,6 +90,6 @@ trawnosz_part twin_find_place(const uint8_t *table, size_t table_length, const u
             return part;
         }
     }
-    part.verdict.number = TRAWNOSZ_UNLISTED;
+    part.verdict.number = TRAWNOSZ_REFUSED_UNLISTED;
     return part;
 }

@@ -9,7 +9,7 @@ static trawnosz_verdict refused(uint8_t number)
     return verdict;
 }
 
-static int place_bad(const trawnosz_exchanges *table, const trawnosz_place *place)
+static int place_bad(const trawnosz_exchanges *table, const trawnosz_exchange *place)
 {
     if (place->mode == TRAWNOSZ_MODE_FREE)
         return place->serial || place->resends || place->age;
@@ -35,7 +35,7 @@ static int state_bad(const trawnosz_exchanges *table)
     if (setting_bad(table->timeout, table->resends))
         return 1;
     for (size_t i = 0; i < TRAWNOSZ_EXCHANGES; i++) {
-        const trawnosz_place *place = &table->places[i];
+        const trawnosz_exchange *place = &table->places[i];
         if (place_bad(table, place))
             return 1;
         if (place->mode != TRAWNOSZ_MODE_FREE && is_open(table, i, place->serial))
@@ -48,7 +48,7 @@ trawnosz_verdict twin_exchanges_fresh(trawnosz_exchanges *table, uint8_t timeout
 {
     memset(table, 0, sizeof *table);
     if (setting_bad(timeout, resends))
-        return refused(TRAWNOSZ_SETTING);
+        return refused(TRAWNOSZ_REFUSED_SETTING);
     table->timeout = timeout;
     table->resends = resends;
     return refused(TRAWNOSZ_OK);
@@ -58,14 +58,14 @@ static twin_begun begin(trawnosz_exchanges *table, uint8_t mode)
 {
     twin_begun begun = {refused(TRAWNOSZ_OK), 0, 0};
     if (state_bad(table)) {
-        begun.verdict.number = TRAWNOSZ_STATE;
+        begun.verdict.number = TRAWNOSZ_REFUSED_STATE;
         return begun;
     }
     size_t i = 0;
     while (i < TRAWNOSZ_EXCHANGES && table->places[i].mode != TRAWNOSZ_MODE_FREE)
         i++;
     if (i == TRAWNOSZ_EXCHANGES) {
-        begun.verdict.number = TRAWNOSZ_FULL;
+        begun.verdict.number = TRAWNOSZ_REFUSED_FULL;
         return begun;
     }
     uint16_t serial = table->next;
@@ -89,33 +89,33 @@ twin_begun twin_begin_request(trawnosz_exchanges *table)
     return begin(table, TRAWNOSZ_MODE_REQUEST);
 }
 
-static void set_free(trawnosz_place *place)
+static void set_free(trawnosz_exchange *place)
 {
     memset(place, 0, sizeof *place);
 }
 
 /* Sends again or gives up. */
-static uint8_t again(const trawnosz_exchanges *table, trawnosz_place *place)
+static uint8_t again(const trawnosz_exchanges *table, trawnosz_exchange *place)
 {
     if (place->resends < table->resends) {
         place->resends++;
         place->age = 0;
-        return TRAWNOSZ_RESENT;
+        return TRAWNOSZ_OUTCOME_RESENT;
     }
     set_free(place);
-    return TRAWNOSZ_FAILED;
+    return TRAWNOSZ_OUTCOME_FAILED;
 }
 
 /* The open place of a serial whose mode is among `modes`, a bit for each. */
 static twin_replied reply(trawnosz_exchanges *table, uint16_t serial, unsigned modes, uint8_t ended)
 {
-    twin_replied replied = {refused(TRAWNOSZ_OK), 0, TRAWNOSZ_NOTHING};
+    twin_replied replied = {refused(TRAWNOSZ_OK), 0, TRAWNOSZ_OUTCOME_NOTHING};
     if (state_bad(table)) {
-        replied.verdict.number = TRAWNOSZ_STATE;
+        replied.verdict.number = TRAWNOSZ_REFUSED_STATE;
         return replied;
     }
     for (size_t i = 0; i < TRAWNOSZ_EXCHANGES; i++) {
-        trawnosz_place *place = &table->places[i];
+        trawnosz_exchange *place = &table->places[i];
         if (place->serial == serial && (modes >> place->mode & 1)) {
             replied.place = i;
             replied.outcome = ended;
@@ -126,37 +126,37 @@ static twin_replied reply(trawnosz_exchanges *table, uint16_t serial, unsigned m
             return replied;
         }
     }
-    replied.verdict.number = TRAWNOSZ_STRAY;
+    replied.verdict.number = TRAWNOSZ_REFUSED_STRAY;
     return replied;
 }
 
 twin_replied twin_reply_confirm(trawnosz_exchanges *table, uint16_t serial)
 {
-    return reply(table, serial, 1u << TRAWNOSZ_MODE_SEND, TRAWNOSZ_CONFIRMED);
+    return reply(table, serial, 1u << TRAWNOSZ_MODE_SEND, TRAWNOSZ_OUTCOME_CONFIRMED);
 }
 
 twin_replied twin_reply_answer(trawnosz_exchanges *table, uint16_t serial)
 {
-    return reply(table, serial, 1u << TRAWNOSZ_MODE_REQUEST, TRAWNOSZ_ANSWERED);
+    return reply(table, serial, 1u << TRAWNOSZ_MODE_REQUEST, TRAWNOSZ_OUTCOME_ANSWERED);
 }
 
 twin_replied twin_reply_deny(trawnosz_exchanges *table, uint16_t serial)
 {
-    return reply(table, serial, 1u << TRAWNOSZ_MODE_SEND | 1u << TRAWNOSZ_MODE_REQUEST, TRAWNOSZ_NOTHING);
+    return reply(table, serial, 1u << TRAWNOSZ_MODE_SEND | 1u << TRAWNOSZ_MODE_REQUEST, TRAWNOSZ_OUTCOME_NOTHING);
 }
 
 twin_replied twin_reply_bad_answer(trawnosz_exchanges *table, uint16_t serial)
 {
-    return reply(table, serial, 1u << TRAWNOSZ_MODE_REQUEST, TRAWNOSZ_NOTHING);
+    return reply(table, serial, 1u << TRAWNOSZ_MODE_REQUEST, TRAWNOSZ_OUTCOME_NOTHING);
 }
 
 trawnosz_verdict twin_tick(trawnosz_exchanges *table, trawnosz_report reports[TRAWNOSZ_EXCHANGES])
 {
     memset(reports, 0, TRAWNOSZ_EXCHANGES * sizeof *reports);
     if (state_bad(table))
-        return refused(TRAWNOSZ_STATE);
+        return refused(TRAWNOSZ_REFUSED_STATE);
     for (size_t i = 0; i < TRAWNOSZ_EXCHANGES; i++) {
-        trawnosz_place *place = &table->places[i];
+        trawnosz_exchange *place = &table->places[i];
         reports[i].serial = place->serial;
         if (place->mode != TRAWNOSZ_MODE_FREE && ++place->age >= table->timeout)
             reports[i].outcome = again(table, place);

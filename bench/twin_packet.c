@@ -28,33 +28,33 @@ static uint8_t sum_of(const uint8_t *packet, size_t unit)
 static uint8_t judge_frame(const uint8_t *p, size_t n)
 {
     if (n < AROUND_UNIT)
-        return TRAWNOSZ_CUT;
+        return TRAWNOSZ_REFUSED_CUT;
     if (p[0] != 64 || p[1] != 64)
-        return TRAWNOSZ_START;
+        return TRAWNOSZ_REFUSED_START;
     size_t unit = length_of(p);
     if (unit > TRAWNOSZ_LONGEST_UNIT)
-        return TRAWNOSZ_LENGTH;
+        return TRAWNOSZ_REFUSED_LENGTH;
     if (n != AROUND_UNIT + unit)
-        return TRAWNOSZ_CUT;
+        return TRAWNOSZ_REFUSED_CUT;
     if (p[n - 2] != 35 || p[n - 1] != 35)
-        return TRAWNOSZ_END;
-    return sum_of(p, unit) != p[n - 3] ? TRAWNOSZ_SUM : TRAWNOSZ_OK;
+        return TRAWNOSZ_REFUSED_END;
+    return sum_of(p, unit) != p[n - 3] ? TRAWNOSZ_REFUSED_SUM : TRAWNOSZ_OK;
 }
 
 /* From COMMAND on, which the packet's writer judges too. */
 static trawnosz_verdict judge_content(uint8_t command, const uint8_t *label, const uint8_t *unit, size_t length)
 {
-    if (command < TRAWNOSZ_CONTROL || command > TRAWNOSZ_DENY)
-        return refused(TRAWNOSZ_COMMAND);
+    if (command < TRAWNOSZ_COMMAND_CONTROL || command > TRAWNOSZ_COMMAND_DENY)
+        return refused(TRAWNOSZ_REFUSED_COMMAND);
     if (twin_label_bad(label))
-        return refused(TRAWNOSZ_TIME);
+        return refused(TRAWNOSZ_REFUSED_TIME);
     return twin_judge_unit_under(unit, length, command);
 }
 
 static trawnosz_verdict judge_rest(const uint8_t *packet)
 {
     if (packet[4] != 1)
-        return refused(TRAWNOSZ_VERSION);
+        return refused(TRAWNOSZ_REFUSED_VERSION);
     return judge_content(packet[26], packet + 6, packet + UNIT_AT, length_of(packet));
 }
 
@@ -81,9 +81,9 @@ trawnosz_verdict twin_read_packet(const uint8_t *packet, size_t packet_length, t
     return verdict;
 }
 
-trawnosz_part twin_unit_place(const uint8_t *packet, size_t packet_length)
+trawnosz_found twin_find_unit(const uint8_t *packet, size_t packet_length)
 {
-    trawnosz_part part = {twin_judge_packet(packet, packet_length), 0, 0};
+    trawnosz_found part = {twin_judge_packet(packet, packet_length), 0, 0};
     if (part.verdict.number)
         return part;
     part.from = UNIT_AT;
@@ -111,9 +111,9 @@ static void fill(uint8_t *out, const trawnosz_header *header, size_t length)
 trawnosz_verdict twin_write_packet(uint8_t *out, size_t out_length, const trawnosz_header *header, size_t length)
 {
     if (length > TRAWNOSZ_LONGEST_UNIT)
-        return refused(TRAWNOSZ_LENGTH);
+        return refused(TRAWNOSZ_REFUSED_LENGTH);
     if (out_length < AROUND_UNIT + length)
-        return refused(TRAWNOSZ_ROOM);
+        return refused(TRAWNOSZ_REFUSED_ROOM);
     trawnosz_verdict verdict = judge_content(header->command, &header->label.second, out + UNIT_AT, length);
     if (verdict.number == TRAWNOSZ_OK)
         fill(out, header, length);
@@ -125,18 +125,18 @@ trawnosz_verdict twin_write_packet_object(uint8_t *out, size_t out_length, size_
                                           size_t description_length)
 {
     if (length > TRAWNOSZ_LONGEST_UNIT)
-        return refused(TRAWNOSZ_LENGTH);
+        return refused(TRAWNOSZ_REFUSED_LENGTH);
     if (out_length < UNIT_AT + length)
-        return refused(TRAWNOSZ_ROOM);
+        return refused(TRAWNOSZ_REFUSED_ROOM);
     return twin_write_object(out + UNIT_AT, length, number, fields, description, description_length);
 }
 
 trawnosz_verdict twin_write_packet_text(uint8_t *out, size_t out_length, const uint8_t *text, size_t text_length)
 {
     if (text_length > TRAWNOSZ_LONGEST_TEXT)
-        return refused(TRAWNOSZ_LENGTH);
+        return refused(TRAWNOSZ_REFUSED_LENGTH);
     if (out_length < AROUND_UNIT + text_length)
-        return refused(TRAWNOSZ_ROOM);
+        return refused(TRAWNOSZ_REFUSED_ROOM);
     return twin_write_text(out + UNIT_AT, out_length - UNIT_AT, text, text_length);
 }
 
@@ -144,8 +144,8 @@ trawnosz_verdict twin_write_packet_text(uint8_t *out, size_t out_length, const u
 static uint8_t due(uint8_t refusal, uint8_t command)
 {
     if (refusal == TRAWNOSZ_OK)
-        return command == TRAWNOSZ_CONTROL || command == TRAWNOSZ_SEND ? TRAWNOSZ_CONFIRM : 0;
-    return command == TRAWNOSZ_CONFIRM || command == TRAWNOSZ_ANSWER || command == TRAWNOSZ_DENY ? 0 : TRAWNOSZ_DENY;
+        return command == TRAWNOSZ_COMMAND_CONTROL || command == TRAWNOSZ_COMMAND_SEND ? TRAWNOSZ_COMMAND_CONFIRM : 0;
+    return command == TRAWNOSZ_COMMAND_CONFIRM || command == TRAWNOSZ_COMMAND_ANSWER || command == TRAWNOSZ_COMMAND_DENY ? 0 : TRAWNOSZ_COMMAND_DENY;
 }
 
 trawnosz_answer twin_answer_to(const uint8_t *packet, size_t packet_length, const trawnosz_label *label, uint8_t *out,
@@ -158,9 +158,9 @@ trawnosz_answer twin_answer_to(const uint8_t *packet, size_t packet_length, cons
     if (!command)
         return answer;
     if (twin_label_bad(&label->second))
-        answer.verdict.number = TRAWNOSZ_TIME;
+        answer.verdict.number = TRAWNOSZ_REFUSED_TIME;
     else if (out_length < TRAWNOSZ_REPLY_BYTES)
-        answer.verdict.number = TRAWNOSZ_ROOM;
+        answer.verdict.number = TRAWNOSZ_REFUSED_ROOM;
     if (answer.verdict.number)
         return answer;
     trawnosz_header header = {(uint16_t)(packet[2] + 256u * packet[3]), packet[5], *label, {0}, {0}, command};

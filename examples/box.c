@@ -42,7 +42,7 @@ static void print_part(const uint8_t *object)
 {
     uint32_t at = object[3] | (uint32_t)object[4] << 8 | (uint32_t)object[5] << 16 | (uint32_t)object[6] << 24;
     trawnosz_key key = {.system = object[0], .address = object[1], .part = object[2], .part_address = at};
-    trawnosz_part found = trawnosz_find_place((const uint8_t *)devices, sizeof devices - 1, key);
+    trawnosz_found found = trawnosz_find_part((const uint8_t *)devices, sizeof devices - 1, key);
     printf("  state %02X %02X of part %u.%u.%u: ", object[7], object[8], key.system, key.address, key.part);
     while (found.to > found.from && devices[found.to - 1] == ' ')
         found.to--;
@@ -55,8 +55,8 @@ static void print_part(const uint8_t *object)
 /* The objects of a unit of type 2, up to the number that is refused. */
 static void print_parts(const uint8_t *unit, size_t length)
 {
-    trawnosz_part object;
-    for (size_t i = 0; (object = trawnosz_object_place(unit, length, i)).verdict.number == TRAWNOSZ_OK; i++)
+    trawnosz_found object;
+    for (size_t i = 0; (object = trawnosz_find_object(unit, length, i)).verdict.number == TRAWNOSZ_OK; i++)
         print_part(unit + object.from);
 }
 
@@ -70,7 +70,7 @@ static void forward(box *b, const uint8_t *unit, size_t length)
         printf("  not sent: %s\n", names[begun.verdict.number]);
         return;
     }
-    trawnosz_header header = {begun.serial, 0, b->clock, {2}, {3}, TRAWNOSZ_SEND};
+    trawnosz_header header = {begun.serial, 0, b->clock, {2}, {3}, TRAWNOSZ_COMMAND_SEND};
     memcpy(out + 27, unit, length);
     if (trawnosz_write_packet(out, sizeof out, header, length).number == TRAWNOSZ_OK)
         print_bytes("sent", out, 30 + length);
@@ -78,7 +78,7 @@ static void forward(box *b, const uint8_t *unit, size_t length)
 
 static const char *outcome_name(uint8_t outcome)
 {
-    return outcome == TRAWNOSZ_CONFIRMED ? "confirmed" : outcome == TRAWNOSZ_RESENT ? "to be sent again" : "failed";
+    return outcome == TRAWNOSZ_OUTCOME_CONFIRMED ? "confirmed" : outcome == TRAWNOSZ_OUTCOME_RESENT ? "to be sent again" : "failed";
 }
 
 static void settle(box *b, uint16_t serial, trawnosz_replied replied)
@@ -93,22 +93,22 @@ static void settle(box *b, uint16_t serial, trawnosz_replied replied)
 /* What a good packet asks for. */
 static void act(box *b, const uint8_t *packet, size_t length, const trawnosz_header *header)
 {
-    trawnosz_part unit = trawnosz_unit_place(packet, length);
+    trawnosz_found unit = trawnosz_find_unit(packet, length);
     const uint8_t *bytes = packet + unit.from;
     switch (header->command) {
-    case TRAWNOSZ_CONTROL:
+    case TRAWNOSZ_COMMAND_CONTROL:
         b->clock = trawnosz_read_object(bytes, unit.to - unit.from, 0).fields.label;
         printf("  clock set to %02u:%02u:%02u\n", b->clock.hour, b->clock.minute, b->clock.second);
         break;
-    case TRAWNOSZ_SEND:
-        if (bytes[0] == TRAWNOSZ_PART_STATE)
+    case TRAWNOSZ_COMMAND_SEND:
+        if (bytes[0] == TRAWNOSZ_TYPE_PART_STATE)
             print_parts(bytes, unit.to - unit.from);
         forward(b, bytes, unit.to - unit.from);
         break;
-    case TRAWNOSZ_CONFIRM:
+    case TRAWNOSZ_COMMAND_CONFIRM:
         settle(b, header->serial, trawnosz_reply_confirm(b->table, header->serial));
         break;
-    case TRAWNOSZ_DENY:
+    case TRAWNOSZ_COMMAND_DENY:
         settle(b, header->serial, trawnosz_reply_deny(b->table, header->serial));
         break;
     }
@@ -122,7 +122,7 @@ static void on_packet(box *b, const uint8_t *packet, const trawnosz_served *serv
            names[opened.verdict.number]);
     trawnosz_answer answer = trawnosz_answer_to(packet, served->length, b->clock, out, sizeof out);
     if (answer.command)
-        print_bytes(answer.command == TRAWNOSZ_CONFIRM ? "confirm" : "deny", out, sizeof out);
+        print_bytes(answer.command == TRAWNOSZ_COMMAND_CONFIRM ? "confirm" : "deny", out, sizeof out);
     if (opened.verdict.number == TRAWNOSZ_OK)
         act(b, packet, served->length, &opened.header);
 }
@@ -144,7 +144,7 @@ static void on_piece(box *b, const uint8_t *piece, size_t n)
             printf("%zu skipped, noise\n", served.skipped);
         else if (served.event != TRAWNOSZ_EVENT_MORE)
             printf("%zu skipped, start refused: %s\n", served.skipped, names[served.event]);
-    } while (served.event > TRAWNOSZ_ROOM && served.event != TRAWNOSZ_EVENT_MORE);
+    } while (served.event > TRAWNOSZ_REFUSED_ROOM && served.event != TRAWNOSZ_EVENT_MORE);
 }
 
 static void on_tick(box *b)

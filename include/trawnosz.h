@@ -38,31 +38,31 @@ enum {
 /* Refusals. */
 enum {
     TRAWNOSZ_OK = 0,
-    TRAWNOSZ_STATE = 1,    /* a receiver or exchange state breaks its rules */
-    TRAWNOSZ_ROOM = 2,     /* receiver's buffer under 1,054; other output shorter than what is written */
-    TRAWNOSZ_CUT = 3,      /* packet under 30 bytes or not 30+L; device table ends early */
-    TRAWNOSZ_START = 4,    /* packet does not begin 64, 64 */
-    TRAWNOSZ_LENGTH = 5,   /* L over 1,024; type 26 text over 255 */
-    TRAWNOSZ_END = 6,      /* packet does not end 35, 35 */
-    TRAWNOSZ_SUM = 7,      /* the sum is wrong */
-    TRAWNOSZ_VERSION = 8,  /* main version not 1 */
-    TRAWNOSZ_COMMAND = 9,  /* not 1 to 6 */
-    TRAWNOSZ_TIME = 10,    /* a label out of range; place 0 is the header, i+1 object i */
-    TRAWNOSZ_UNIT = 11,    /* 3 or 6: L above 0; other commands, or a unit alone: under 2 bytes */
-    TRAWNOSZ_TYPE = 12,    /* not in the table, or not carried by the command */
-    TRAWNOSZ_COUNT = 13,   /* n is 0 or above its limit */
-    TRAWNOSZ_SIZE = 14,    /* unit's size is not 2 plus its objects */
-    TRAWNOSZ_NUMBER = 15,  /* object number not below n */
-    TRAWNOSZ_KIND = 16,    /* fields of another type than the unit; type 26 to the object writer */
-    TRAWNOSZ_TEXT = 17,    /* description of the wrong length */
-    TRAWNOSZ_SETTING = 18, /* timeout or resend limit out of range */
-    TRAWNOSZ_FULL = 19,    /* 16 exchanges open */
-    TRAWNOSZ_STRAY = 20,   /* no open exchange fits the reply */
-    TRAWNOSZ_MANY = 21,    /* table count over its limit */
-    TRAWNOSZ_ORDER = 22,   /* table entry not above the one before; its number from 0, parts after the systems */
-    TRAWNOSZ_ORPHAN = 23,  /* a part's system is not listed; place as for ORDER */
-    TRAWNOSZ_TAIL = 24,    /* bytes after the table */
-    TRAWNOSZ_UNLISTED = 25 /* no such part */
+    TRAWNOSZ_REFUSED_STATE = 1,    /* a receiver or exchange state breaks its rules */
+    TRAWNOSZ_REFUSED_ROOM = 2,     /* receiver's buffer under 1,054; other output shorter than what is written */
+    TRAWNOSZ_REFUSED_CUT = 3,      /* packet under 30 bytes or not 30+L; device table ends early */
+    TRAWNOSZ_REFUSED_START = 4,    /* packet does not begin 64, 64 */
+    TRAWNOSZ_REFUSED_LENGTH = 5,   /* L over 1,024; type 26 text over 255 */
+    TRAWNOSZ_REFUSED_END = 6,      /* packet does not end 35, 35 */
+    TRAWNOSZ_REFUSED_SUM = 7,      /* the sum is wrong */
+    TRAWNOSZ_REFUSED_VERSION = 8,  /* main version not 1 */
+    TRAWNOSZ_REFUSED_COMMAND = 9,  /* not 1 to 6 */
+    TRAWNOSZ_REFUSED_TIME = 10,    /* a label out of range; place 0 is the header, i+1 object i */
+    TRAWNOSZ_REFUSED_UNIT = 11,    /* 3 or 6: L above 0; other commands, or a unit alone: under 2 bytes */
+    TRAWNOSZ_REFUSED_TYPE = 12,    /* not in the table, or not carried by the command */
+    TRAWNOSZ_REFUSED_COUNT = 13,   /* n is 0 or above its limit */
+    TRAWNOSZ_REFUSED_SIZE = 14,    /* unit's size is not 2 plus its objects */
+    TRAWNOSZ_REFUSED_NUMBER = 15,  /* object number not below n */
+    TRAWNOSZ_REFUSED_KIND = 16,    /* fields of another type than the unit; type 26 to the object writer */
+    TRAWNOSZ_REFUSED_TEXT = 17,    /* description of the wrong length */
+    TRAWNOSZ_REFUSED_SETTING = 18, /* timeout or resend limit out of range */
+    TRAWNOSZ_REFUSED_FULL = 19,    /* 16 exchanges open */
+    TRAWNOSZ_REFUSED_STRAY = 20,   /* no open exchange fits the reply */
+    TRAWNOSZ_REFUSED_MANY = 21,    /* table count over its limit */
+    TRAWNOSZ_REFUSED_ORDER = 22,   /* table entry not above the one before; its number from 0, parts after the systems */
+    TRAWNOSZ_REFUSED_ORPHAN = 23,  /* a part's system is not listed; place as for ORDER */
+    TRAWNOSZ_REFUSED_TAIL = 24,    /* bytes after the table */
+    TRAWNOSZ_REFUSED_UNLISTED = 25 /* no such part */
 };
 
 /* Events of the receiver: these, the numbers LENGTH, END and SUM for refused starts, STATE and ROOM for a refused call. */
@@ -74,30 +74,30 @@ enum {
 
 /* Commands of a packet. */
 enum {
-    TRAWNOSZ_CONTROL = 1,
-    TRAWNOSZ_SEND = 2,
-    TRAWNOSZ_CONFIRM = 3,
-    TRAWNOSZ_REQUEST = 4,
-    TRAWNOSZ_ANSWER = 5,
-    TRAWNOSZ_DENY = 6
+    TRAWNOSZ_COMMAND_CONTROL = 1,
+    TRAWNOSZ_COMMAND_SEND = 2,
+    TRAWNOSZ_COMMAND_CONFIRM = 3,
+    TRAWNOSZ_COMMAND_REQUEST = 4,
+    TRAWNOSZ_COMMAND_ANSWER = 5,
+    TRAWNOSZ_COMMAND_DENY = 6
 };
 
 /* Types of a unit. */
 enum {
-    TRAWNOSZ_SYSTEM_STATE = 1,
-    TRAWNOSZ_PART_STATE = 2,
-    TRAWNOSZ_ANALOGUE = 3,
-    TRAWNOSZ_OPERATION = 4,
-    TRAWNOSZ_PART_CONFIGURATION = 7,
-    TRAWNOSZ_SYSTEM_CLOCK = 8,
-    TRAWNOSZ_TRANSMITTER_STATE = 21,
-    TRAWNOSZ_TRANSMITTER_OPERATION = 24,
-    TRAWNOSZ_TRANSMITTER_VERSION = 25,
-    TRAWNOSZ_TRANSMITTER_CONFIGURATION = 26,
-    TRAWNOSZ_TRANSMITTER_CLOCK = 28,
-    TRAWNOSZ_READ_SYSTEM_STATE = 61,
-    TRAWNOSZ_READ_PART_STATE = 62,
-    TRAWNOSZ_SET_CLOCK = 90
+    TRAWNOSZ_TYPE_SYSTEM_STATE = 1,
+    TRAWNOSZ_TYPE_PART_STATE = 2,
+    TRAWNOSZ_TYPE_ANALOGUE = 3,
+    TRAWNOSZ_TYPE_OPERATION = 4,
+    TRAWNOSZ_TYPE_PART_CONFIGURATION = 7,
+    TRAWNOSZ_TYPE_SYSTEM_CLOCK = 8,
+    TRAWNOSZ_TYPE_TRANSMITTER_STATE = 21,
+    TRAWNOSZ_TYPE_TRANSMITTER_OPERATION = 24,
+    TRAWNOSZ_TYPE_TRANSMITTER_VERSION = 25,
+    TRAWNOSZ_TYPE_TRANSMITTER_CONFIGURATION = 26,
+    TRAWNOSZ_TYPE_TRANSMITTER_CLOCK = 28,
+    TRAWNOSZ_TYPE_READ_SYSTEM_STATE = 61,
+    TRAWNOSZ_TYPE_READ_PART_STATE = 62,
+    TRAWNOSZ_TYPE_SET_CLOCK = 90
 };
 
 /* Modes of a place in an exchange table; any other is STATE. */
@@ -109,11 +109,11 @@ enum {
 
 /* What is told of an exchange. */
 enum {
-    TRAWNOSZ_NOTHING = 0,
-    TRAWNOSZ_CONFIRMED = 40, /* a confirm came for a send; the place is free again */
-    TRAWNOSZ_ANSWERED = 41,  /* an answer came for a request; the place is free again */
-    TRAWNOSZ_RESENT = 42,    /* to be sent again under the same serial */
-    TRAWNOSZ_FAILED = 43     /* given up; the place is free again */
+    TRAWNOSZ_OUTCOME_NOTHING = 0,
+    TRAWNOSZ_OUTCOME_CONFIRMED = 40, /* a confirm came for a send; the place is free again */
+    TRAWNOSZ_OUTCOME_ANSWERED = 41,  /* an answer came for a request; the place is free again */
+    TRAWNOSZ_OUTCOME_RESENT = 42,    /* to be sent again under the same serial */
+    TRAWNOSZ_OUTCOME_FAILED = 43     /* given up; the place is free again */
 };
 
 /* 0 and 0, or a refusal's number and its place (0 where none is named). */
@@ -123,11 +123,11 @@ typedef struct trawnosz_verdict {
 } trawnosz_verdict;
 
 /* A verdict, and where a part stands; 0 and 0 where it is refused. */
-typedef struct trawnosz_part {
+typedef struct trawnosz_found {
     trawnosz_verdict verdict;
     size_t from;
     size_t to;
-} trawnosz_part;
+} trawnosz_found;
 
 /* A time label: second 0-59, minute 0-59, hour 0-23, day 1-31, month 1-12, year 0-99. */
 typedef struct trawnosz_label {
@@ -210,16 +210,16 @@ typedef struct trawnosz_answer {
 } trawnosz_answer;
 
 /* One exchange; a free place is all zero. */
-typedef struct trawnosz_place {
+typedef struct trawnosz_exchange {
     uint16_t serial;
     uint8_t mode;
     uint8_t resends;
     uint8_t age;
-} trawnosz_place;
+} trawnosz_exchange;
 
 /* The exchange table, by value: sixteen places, the serial to try next, T and R. */
 typedef struct trawnosz_exchanges {
-    trawnosz_place places[16];
+    trawnosz_exchange places[16];
     uint16_t next;
     uint8_t timeout;
     uint8_t resends;
@@ -232,14 +232,14 @@ typedef struct trawnosz_made {
 
 typedef struct trawnosz_begun {
     trawnosz_verdict verdict;
-    size_t place;
+    size_t exchange_place;
     uint16_t serial;
     trawnosz_exchanges state;
 } trawnosz_begun;
 
 typedef struct trawnosz_replied {
     trawnosz_verdict verdict;
-    size_t place;
+    size_t exchange_place;
     uint8_t outcome;
     trawnosz_exchanges state;
 } trawnosz_replied;
@@ -292,7 +292,7 @@ trawnosz_verdict trawnosz_judge_packet(const uint8_t *packet, size_t packet_leng
 trawnosz_opened trawnosz_read_packet(const uint8_t *packet, size_t packet_length);
 
 /* Where a packet's unit stands; refuses as its judge. */
-trawnosz_part trawnosz_unit_place(const uint8_t *packet, size_t packet_length);
+trawnosz_found trawnosz_find_unit(const uint8_t *packet, size_t packet_length);
 
 /* Writes a packet around the unit of `length` bytes that already stands from out[27] on: the 27 bytes before it and the 3
  * behind it. Refuses LENGTH, ROOM (under 30 + length), COMMAND, TIME, UNIT, TYPE, COUNT, SIZE, TIME. */
@@ -320,14 +320,14 @@ trawnosz_verdict trawnosz_judge_unit(const uint8_t *unit, size_t unit_length);
 trawnosz_verdict trawnosz_judge_unit_under(const uint8_t *unit, size_t unit_length, uint8_t command);
 
 /* Where an object stands, its label included; refuses as the unit's judge, then NUMBER. */
-trawnosz_part trawnosz_object_place(const uint8_t *unit, size_t unit_length, size_t number);
+trawnosz_found trawnosz_find_object(const uint8_t *unit, size_t unit_length, size_t number);
 
-/* An object's fields; refuses as trawnosz_object_place. */
+/* An object's fields; refuses as trawnosz_find_object. */
 trawnosz_typed trawnosz_read_object(const uint8_t *unit, size_t unit_length, size_t number);
 
 /* Where an object's description stands, for type 26 its text; an empty part, at the object's end, for a type without one.
- * Refuses as trawnosz_object_place. */
-trawnosz_part trawnosz_description_place(const uint8_t *unit, size_t unit_length, size_t number);
+ * Refuses as trawnosz_find_object. */
+trawnosz_found trawnosz_find_description(const uint8_t *unit, size_t unit_length, size_t number);
 
 /* Writes one object of a unit whose type and n already stand, and no other byte; the description has 31 bytes for types 2
  * and 7 and none for others. Refuses UNIT, TYPE, COUNT, SIZE, NUMBER, KIND, TEXT, TIME of the new label. */
@@ -363,7 +363,7 @@ trawnosz_ticked trawnosz_tick(trawnosz_exchanges table);
 trawnosz_table trawnosz_judge_table(const uint8_t *table, size_t table_length);
 
 /* Where the description of a part stands in a table. Refuses as the table's judge, then UNLISTED. */
-trawnosz_part trawnosz_find_place(const uint8_t *table, size_t table_length, trawnosz_key key);
+trawnosz_found trawnosz_find_part(const uint8_t *table, size_t table_length, trawnosz_key key);
 
 #ifdef __cplusplus
 }

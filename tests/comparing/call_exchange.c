@@ -51,7 +51,7 @@ struct ind_turn both_begin(struct trial *t, struct ind_book *book, enum ind_mode
     tell_book(&a, book);
     trawnosz_begun theirs = mode == IND_SEND ? trawnosz_begin_send(table) : trawnosz_begin_request(table);
     tell_their_verdict(&b, theirs.verdict);
-    tell(&b, "taken place", theirs.place);
+    tell(&b, "taken place", theirs.exchange_place);
     tell(&b, "serial", theirs.serial);
     tell_their_table(&b, &theirs.state);
     agree(t, &a, &b);
@@ -82,7 +82,7 @@ struct ind_turn both_reply(struct trial *t, struct ind_book *book, enum ind_told
     tell_book(&a, book);
     trawnosz_replied theirs = replies[told].call(table, serial);
     tell_their_verdict(&b, theirs.verdict);
-    tell(&b, "fitting place", theirs.place);
+    tell(&b, "fitting place", theirs.exchange_place);
     tell(&b, "outcome", theirs.outcome);
     tell_their_table(&b, &theirs.state);
     agree(t, &a, &b);

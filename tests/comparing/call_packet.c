@@ -61,10 +61,10 @@ struct ind_packet both_read_packet(struct trial *t, const uint8_t *packet, size_
 
 struct ind_span both_unit_place(struct trial *t, const uint8_t *packet, size_t size)
 {
-    calling(t, "trawnosz_unit_place");
+    calling(t, "trawnosz_find_unit");
     with_bytes("packet", packet, size);
     struct ind_span mine = ind_unit_span(packet, size);
-    agree_part(t, mine, trawnosz_unit_place(lend(t, LENT_INPUT, packet, size), size));
+    agree_part(t, mine, trawnosz_find_unit(lend(t, LENT_INPUT, packet, size), size));
     check_lent(t, LENT_INPUT, "packet", packet);
     return mine;
 }

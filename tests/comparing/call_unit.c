@@ -33,20 +33,20 @@ struct ind_verdict both_judge_unit_under(struct trial *t, const uint8_t *unit, s
 
 struct ind_span both_object_place(struct trial *t, const uint8_t *unit, size_t size, size_t number)
 {
-    const uint8_t *lent = start_unit_call(t, "trawnosz_object_place", unit, size);
+    const uint8_t *lent = start_unit_call(t, "trawnosz_find_object", unit, size);
     with_number("number", number);
     struct ind_span mine = ind_object_span(unit, size, number);
-    agree_part(t, mine, trawnosz_object_place(lent, size, number));
+    agree_part(t, mine, trawnosz_find_object(lent, size, number));
     check_lent(t, LENT_INPUT, "unit", unit);
     return mine;
 }
 
 struct ind_span both_description_place(struct trial *t, const uint8_t *unit, size_t size, size_t number)
 {
-    const uint8_t *lent = start_unit_call(t, "trawnosz_description_place", unit, size);
+    const uint8_t *lent = start_unit_call(t, "trawnosz_find_description", unit, size);
     with_number("number", number);
     struct ind_span mine = ind_description_span(unit, size, number);
-    agree_part(t, mine, trawnosz_description_place(lent, size, number));
+    agree_part(t, mine, trawnosz_find_description(lent, size, number));
     check_lent(t, LENT_INPUT, "unit", unit);
     return mine;
 }

@@ -69,7 +69,7 @@ trawnosz_exchanges their_table(const struct ind_book *book);
 void tell_verdict(struct answer *answer, struct ind_verdict verdict);
 void tell_their_verdict(struct answer *answer, trawnosz_verdict verdict);
 void agree_verdict(struct trial *t, struct ind_verdict mine, trawnosz_verdict theirs);
-void agree_part(struct trial *t, struct ind_span mine, trawnosz_part theirs);
+void agree_part(struct trial *t, struct ind_span mine, trawnosz_found theirs);
 void tell_book(struct answer *answer, const struct ind_book *book);
 void tell_their_table(struct answer *answer, const trawnosz_exchanges *table);
 uint8_t outcome_number(enum ind_outcome outcome);

@@ -77,7 +77,7 @@ void agree_verdict(struct trial *t, struct ind_verdict mine, trawnosz_verdict th
     agree(t, &a, &b);
 }
 
-void agree_part(struct trial *t, struct ind_span mine, trawnosz_part theirs)
+void agree_part(struct trial *t, struct ind_span mine, trawnosz_found theirs)
 {
     struct answer a = {0}, b = {0};
     tell_verdict(&a, mine.verdict);

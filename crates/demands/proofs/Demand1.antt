@@ -127,8 +127,8 @@ not-made t m e = simp e
 
 -- THE LIST: each call that a box links, whatever answer meets its contract.
 -- These take no state and are lent nothing to write in:
--- trawnosz_judge_packet, trawnosz_read_packet, trawnosz_unit_place, trawnosz_judge_unit, trawnosz_judge_unit_under, trawnosz_object_place,
--- trawnosz_read_object, trawnosz_description_place, trawnosz_judge_table, trawnosz_find_place.
+-- trawnosz_judge_packet, trawnosz_read_packet, trawnosz_find_unit, trawnosz_judge_unit, trawnosz_judge_unit_under, trawnosz_find_object,
+-- trawnosz_read_object, trawnosz_find_description, trawnosz_judge_table, trawnosz_find_part.
 -- This one refuses nothing: trawnosz_fresh.
 
 -- trawnosz_receive: with the held bytes and the count that were given, zero for all else; the hold and the buffer as they were

@@ -11,12 +11,12 @@ use Rattle.trawnosz.specs.declared.ServedC.{ServedC}
 use Rattle.verdict.specs.declared.Verdict.{Verdict}
 use Rattle.trawnosz.proofs.trawnosz_judge_packet.Reads as judge-packet
 use Rattle.trawnosz.proofs.trawnosz_read_packet.Reads as read-packet
-use Rattle.trawnosz.proofs.trawnosz_unit_place.Reads as unit-place
+use Rattle.trawnosz.proofs.trawnosz_find_unit.Reads as find-unit
 use Rattle.trawnosz.proofs.trawnosz_judge_unit.Reads as judge-unit
 use Rattle.trawnosz.proofs.trawnosz_judge_unit_under.Reads as judge-unit-under
-use Rattle.trawnosz.proofs.trawnosz_object_place.Reads as object-place
+use Rattle.trawnosz.proofs.trawnosz_find_object.Reads as find-object
 use Rattle.trawnosz.proofs.trawnosz_read_object.Reads as read-object
-use Rattle.trawnosz.proofs.trawnosz_description_place.Reads as description-place
+use Rattle.trawnosz.proofs.trawnosz_find_description.Reads as find-description
 use Rattle.trawnosz.proofs.trawnosz_exchanges_fresh.Reads as exchanges-fresh
 use Rattle.trawnosz.proofs.trawnosz_begin_send.Reads as begin-send
 use Rattle.trawnosz.proofs.trawnosz_begin_request.Reads as begin-request
@@ -26,7 +26,7 @@ use Rattle.trawnosz.proofs.trawnosz_reply_deny.Reads as reply-deny
 use Rattle.trawnosz.proofs.trawnosz_reply_bad_answer.Reads as reply-bad-answer
 use Rattle.trawnosz.proofs.trawnosz_tick.Reads as tick
 use Rattle.trawnosz.proofs.trawnosz_judge_table.Reads as judge-table
-use Rattle.trawnosz.proofs.trawnosz_find_place.Reads as find-place
+use Rattle.trawnosz.proofs.trawnosz_find_part.Reads as find-part
 use Rattle.trawnosz.proofs.trawnosz_fresh.Reads as fresh
 use Rattle.trawnosz.proofs.trawnosz_receive.Reads as receive
 use Rattle.trawnosz.proofs.trawnosz_write_packet.Reads as write-packet
@@ -42,8 +42,8 @@ judge-packet-determined κs x r s a b = a ∙ sym b
 pub read-packet-determined : (κs : _) (x : _) (r s : _) → read-packet.Post κs x r x → read-packet.Post κs x s x → r ≡ s
 read-packet-determined κs x r s a b = a ∙ sym b
 
-pub unit-place-determined : (κs : _) (x : _) (r s : _) → unit-place.Post κs x r x → unit-place.Post κs x s x → r ≡ s
-unit-place-determined κs x r s a b = a ∙ sym b
+pub find-unit-determined : (κs : _) (x : _) (r s : _) → find-unit.Post κs x r x → find-unit.Post κs x s x → r ≡ s
+find-unit-determined κs x r s a b = a ∙ sym b
 
 pub judge-unit-determined : (κs : _) (x : _) (r s : _) → judge-unit.Post κs x r x → judge-unit.Post κs x s x → r ≡ s
 judge-unit-determined κs x r s a b = a ∙ sym b
@@ -51,14 +51,14 @@ judge-unit-determined κs x r s a b = a ∙ sym b
 pub judge-unit-under-determined : (κs : _) (x : _) (r s : _) → judge-unit-under.Post κs x r x → judge-unit-under.Post κs x s x → r ≡ s
 judge-unit-under-determined κs x r s a b = a ∙ sym b
 
-pub object-place-determined : (κs : _) (x : _) (r s : _) → object-place.Post κs x r x → object-place.Post κs x s x → r ≡ s
-object-place-determined κs x r s a b = a ∙ sym b
+pub find-object-determined : (κs : _) (x : _) (r s : _) → find-object.Post κs x r x → find-object.Post κs x s x → r ≡ s
+find-object-determined κs x r s a b = a ∙ sym b
 
 pub read-object-determined : (κs : _) (x : _) (r s : _) → read-object.Post κs x r x → read-object.Post κs x s x → r ≡ s
 read-object-determined κs x r s a b = a ∙ sym b
 
-pub description-place-determined : (κs : _) (x : _) (r s : _) → description-place.Post κs x r x → description-place.Post κs x s x → r ≡ s
-description-place-determined κs x r s a b = a ∙ sym b
+pub find-description-determined : (κs : _) (x : _) (r s : _) → find-description.Post κs x r x → find-description.Post κs x s x → r ≡ s
+find-description-determined κs x r s a b = a ∙ sym b
 
 pub exchanges-fresh-determined : (κs : _) (x : _) (r s : _) → exchanges-fresh.Post κs x r x → exchanges-fresh.Post κs x s x → r ≡ s
 exchanges-fresh-determined κs x r s a b = a ∙ sym b
@@ -87,8 +87,8 @@ tick-determined κs x r s a b = a ∙ sym b
 pub judge-table-determined : (κs : _) (x : _) (r s : _) → judge-table.Post κs x r x → judge-table.Post κs x s x → r ≡ s
 judge-table-determined κs x r s a b = a ∙ sym b
 
-pub find-place-determined : (κs : _) (x : _) (r s : _) → find-place.Post κs x r x → find-place.Post κs x s x → r ≡ s
-find-place-determined κs x r s a b = a ∙ sym b
+pub find-part-determined : (κs : _) (x : _) (r s : _) → find-part.Post κs x r x → find-part.Post κs x s x → r ≡ s
+find-part-determined κs x r s a b = a ∙ sym b
 
 pub write-packet-determined : (κs : _) (out o o' : RefT (List ℕ)) (h : Header) (l : ℕ) (r s : Verdict)
     → write-packet.Post κs (out, (h, (l, tt))) r (o, (h, (l, tt))) → write-packet.Post κs (out, (h, (l, tt))) s (o', (h, (l, tt))) → (r ≡ s) × (now o ≡ now o')

@@ -101,7 +101,7 @@ pub extern "C" fn trawnosz_read_packet(p: &[u8]) -> Opened
 }
 
 #[no_mangle]
-pub extern "C" fn trawnosz_unit_place(p: &[u8]) -> Part
+pub extern "C" fn trawnosz_find_unit(p: &[u8]) -> Part
     ensures { λ r. ⌜ r ≡ unitPlace rows (now (p .entry)) ⌝ }
 {
     packet::unit_place(p)
@@ -166,7 +166,7 @@ pub extern "C" fn trawnosz_judge_unit_under(u: &[u8], command: u8) -> Verdict
 }
 
 #[no_mangle]
-pub extern "C" fn trawnosz_object_place(u: &[u8], number: usize) -> Part
+pub extern "C" fn trawnosz_find_object(u: &[u8], number: usize) -> Part
     ensures { λ r. ⌜ r ≡ objectPlace rows (now (u .entry)) number ⌝ }
 {
     unit::object_place(u, number)
@@ -180,7 +180,7 @@ pub extern "C" fn trawnosz_read_object(u: &[u8], number: usize) -> Typed
 }
 
 #[no_mangle]
-pub extern "C" fn trawnosz_description_place(u: &[u8], number: usize) -> Part
+pub extern "C" fn trawnosz_find_description(u: &[u8], number: usize) -> Part
     ensures { λ r. ⌜ r ≡ descriptionPlace rows (now (u .entry)) number ⌝ }
 {
     typed::description_place(u, number)
@@ -271,7 +271,7 @@ pub extern "C" fn trawnosz_judge_table(table: &[u8]) -> Judgement
 }
 
 #[no_mangle]
-pub extern "C" fn trawnosz_find_place(table: &[u8], key: PartKey) -> Part
+pub extern "C" fn trawnosz_find_part(table: &[u8], key: PartKey) -> Part
     ensures { λ r. ⌜ r ≡ foundPlace ofSystems ofParts (now (table .entry)) (keyBytes key) ⌝ }
 {
     devices::find_place(table, key)
