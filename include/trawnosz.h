@@ -1,5 +1,9 @@
 /*
- * Trawnosz: packets of GB/T 26875.3 for alarm transmitters. The calls of libtrawnosz.a, for C99 and later.
+ * Trawnosz: packets of GB/T 26875.3 for alarm transmitters. The calls of libtrawnosz.a, for C99 and later and for C++.
+ *
+ * The archive is x86-64 code with the System V calling convention. It needs memmove and memset from whoever links it, and
+ * nothing else: it allocates nothing and opens nothing. A compiler that lays out the structs of this header in another way,
+ * for another machine or under `#pragma pack`, is stopped at the end of it.
  *
  * Every call copes with every input and ends. What it will not take it refuses by number: the answer then holds the number
  * and its place, zero for all else and the state as it came, and nothing that was lent is written. A number of 0 is good.
@@ -8,7 +12,7 @@
  * What a call writes must not overlap anything else that the same call is lent. No call keeps a pointer, allocates, prints
  * or has a memory of an earlier call: calls on different memory may run at the same time.
  *
- * A part is told as `from` and `to`, places in the caller's own bytes counted from 0; it ends before `to`.
+ * Bytes that are found are told as `from` and `to`, counted from 0 in the caller's own bytes; they end before `to`.
  * Structs are compared member by member: bytes between members have no meaning.
  */
 #ifndef TRAWNOSZ_H
@@ -35,7 +39,7 @@ enum {
     TRAWNOSZ_REPLY_BYTES = 30        /* a packet without a unit */
 };
 
-/* Refusals. */
+/* Refusals, in a verdict's `number`. */
 enum {
     TRAWNOSZ_OK = 0,
     TRAWNOSZ_REFUSED_STATE = 1,    /* a receiver or exchange state breaks its rules */
@@ -82,22 +86,22 @@ enum {
     TRAWNOSZ_COMMAND_DENY = 6
 };
 
-/* Types of a unit. */
+/* Types of a unit: the size of an object, its label included, and the largest n. A unit has 2 bytes more than its objects. */
 enum {
-    TRAWNOSZ_TYPE_SYSTEM_STATE = 1,
-    TRAWNOSZ_TYPE_PART_STATE = 2,
-    TRAWNOSZ_TYPE_ANALOGUE = 3,
-    TRAWNOSZ_TYPE_OPERATION = 4,
-    TRAWNOSZ_TYPE_PART_CONFIGURATION = 7,
-    TRAWNOSZ_TYPE_SYSTEM_CLOCK = 8,
-    TRAWNOSZ_TYPE_TRANSMITTER_STATE = 21,
-    TRAWNOSZ_TYPE_TRANSMITTER_OPERATION = 24,
-    TRAWNOSZ_TYPE_TRANSMITTER_VERSION = 25,
-    TRAWNOSZ_TYPE_TRANSMITTER_CONFIGURATION = 26,
-    TRAWNOSZ_TYPE_TRANSMITTER_CLOCK = 28,
-    TRAWNOSZ_TYPE_READ_SYSTEM_STATE = 61,
-    TRAWNOSZ_TYPE_READ_PART_STATE = 62,
-    TRAWNOSZ_TYPE_SET_CLOCK = 90
+    TRAWNOSZ_TYPE_SYSTEM_STATE = 1,                /* 10 bytes, at most 102 */
+    TRAWNOSZ_TYPE_PART_STATE = 2,                  /* 46 bytes, at most 22 */
+    TRAWNOSZ_TYPE_ANALOGUE = 3,                    /* 16 bytes, at most 63 */
+    TRAWNOSZ_TYPE_OPERATION = 4,                   /* 10 bytes, at most 102 */
+    TRAWNOSZ_TYPE_PART_CONFIGURATION = 7,          /* 38 bytes, at most 26 */
+    TRAWNOSZ_TYPE_SYSTEM_CLOCK = 8,                /* 8 bytes, at most 1 */
+    TRAWNOSZ_TYPE_TRANSMITTER_STATE = 21,          /* 7 bytes, at most 1 */
+    TRAWNOSZ_TYPE_TRANSMITTER_OPERATION = 24,      /* 8 bytes, at most 127 */
+    TRAWNOSZ_TYPE_TRANSMITTER_VERSION = 25,        /* 2 bytes, at most 1 */
+    TRAWNOSZ_TYPE_TRANSMITTER_CONFIGURATION = 26,  /* 1 byte K and K of text, at most 1 */
+    TRAWNOSZ_TYPE_TRANSMITTER_CLOCK = 28,          /* 6 bytes, at most 1 */
+    TRAWNOSZ_TYPE_READ_SYSTEM_STATE = 61,          /* 2 bytes, at most 102 */
+    TRAWNOSZ_TYPE_READ_PART_STATE = 62,            /* 6 bytes, at most 22 */
+    TRAWNOSZ_TYPE_SET_CLOCK = 90                   /* 6 bytes, at most 1 */
 };
 
 /* Modes of a place in an exchange table; any other is STATE. */
@@ -122,7 +126,7 @@ typedef struct trawnosz_verdict {
     size_t place;
 } trawnosz_verdict;
 
-/* A verdict, and where a part stands; 0 and 0 where it is refused. */
+/* A verdict, and where the bytes stand that were found; 0 and 0 where it is refused. */
 typedef struct trawnosz_found {
     trawnosz_verdict verdict;
     size_t from;
@@ -277,9 +281,20 @@ typedef struct trawnosz_key {
 void trawnosz_fresh(uint8_t hold[1054]);
 
 /* One call: judges held bytes first, takes from the piece up to the byte that decides, answers one event or MORE. On PACKET
- * the packet is copied to the front of `out`; nothing else writes there. After an event the rest of the piece is offered
- * again, even where it is empty, until MORE. Refuses STATE (held over 1,054, count over 65,534, a byte behind the held ones
- * that is not 0), then ROOM (out under 1,054 bytes); `held` and `count` then come back as they were given. */
+ * the packet is copied to the front of `out`; nothing else writes there. Refuses STATE (held over 1,054, count over 65,534,
+ * a byte behind the held ones that is not 0), then ROOM (out under 1,054 bytes); `held` and `count` then come back as they
+ * were given. After any other event the rest of the piece is offered again, even where it is empty, until MORE:
+ *
+ *     do {
+ *         served = trawnosz_receive(hold, held, count, piece, piece_length, out, sizeof out);
+ *         held = served.held;
+ *         count = served.count;
+ *         piece += served.taken;
+ *         piece_length -= served.taken;
+ *         (what served.event tells; on PACKET out[0] to out[served.length - 1] are the packet)
+ *     } while (served.event != TRAWNOSZ_EVENT_MORE && served.event != TRAWNOSZ_REFUSED_STATE
+ *              && served.event != TRAWNOSZ_REFUSED_ROOM);
+ */
 trawnosz_served trawnosz_receive(uint8_t hold[1054], size_t held, size_t count, const uint8_t *piece, size_t piece_length,
                                  uint8_t *out, size_t out_length);
 
@@ -311,7 +326,8 @@ trawnosz_verdict trawnosz_write_packet_text(uint8_t *out, size_t out_length, con
 trawnosz_answer trawnosz_answer_to(const uint8_t *packet, size_t packet_length, trawnosz_label label, uint8_t *out,
                                    size_t out_length);
 
-/* ---- Units and objects; objects are numbered from 0. ---- */
+/* ---- Units and objects; objects are numbered from 0. Each call judges the whole unit, so that reading n objects one by one
+ * judges it n times. ---- */
 
 /* The judge of a unit alone: UNIT, TYPE, COUNT, SIZE, TIME. */
 trawnosz_verdict trawnosz_judge_unit(const uint8_t *unit, size_t unit_length);
@@ -364,6 +380,108 @@ trawnosz_table trawnosz_judge_table(const uint8_t *table, size_t table_length);
 
 /* Where the description of a part stands in a table. Refuses as the table's judge, then UNLISTED. */
 trawnosz_found trawnosz_find_part(const uint8_t *table, size_t table_length, trawnosz_key key);
+
+/* ---- The layout that the archive was built for, each member of each struct: an error in one of these lines is another one. ---- */
+
+#define TRAWNOSZ_LAYOUT(type, member, at) typedef char type##_##member##_layout[offsetof(type, member) == (at) ? 1 : -1]
+#define TRAWNOSZ_LAYOUT_SIZE(type, size) typedef char type##_layout[sizeof(type) == (size) ? 1 : -1]
+
+TRAWNOSZ_LAYOUT_SIZE(trawnosz_verdict, 16);
+TRAWNOSZ_LAYOUT(trawnosz_verdict, number, 0);
+TRAWNOSZ_LAYOUT(trawnosz_verdict, place, 8);
+TRAWNOSZ_LAYOUT_SIZE(trawnosz_found, 32);
+TRAWNOSZ_LAYOUT(trawnosz_found, verdict, 0);
+TRAWNOSZ_LAYOUT(trawnosz_found, from, 16);
+TRAWNOSZ_LAYOUT(trawnosz_found, to, 24);
+TRAWNOSZ_LAYOUT_SIZE(trawnosz_label, 6);
+TRAWNOSZ_LAYOUT(trawnosz_label, second, 0);
+TRAWNOSZ_LAYOUT(trawnosz_label, minute, 1);
+TRAWNOSZ_LAYOUT(trawnosz_label, hour, 2);
+TRAWNOSZ_LAYOUT(trawnosz_label, day, 3);
+TRAWNOSZ_LAYOUT(trawnosz_label, month, 4);
+TRAWNOSZ_LAYOUT(trawnosz_label, year, 5);
+TRAWNOSZ_LAYOUT_SIZE(trawnosz_header, 22);
+TRAWNOSZ_LAYOUT(trawnosz_header, serial, 0);
+TRAWNOSZ_LAYOUT(trawnosz_header, version, 2);
+TRAWNOSZ_LAYOUT(trawnosz_header, label, 3);
+TRAWNOSZ_LAYOUT(trawnosz_header, source, 9);
+TRAWNOSZ_LAYOUT(trawnosz_header, destination, 15);
+TRAWNOSZ_LAYOUT(trawnosz_header, command, 21);
+TRAWNOSZ_LAYOUT_SIZE(trawnosz_opened, 48);
+TRAWNOSZ_LAYOUT(trawnosz_opened, verdict, 0);
+TRAWNOSZ_LAYOUT(trawnosz_opened, header, 16);
+TRAWNOSZ_LAYOUT(trawnosz_opened, length, 40);
+TRAWNOSZ_LAYOUT_SIZE(trawnosz_fields, 24);
+TRAWNOSZ_LAYOUT(trawnosz_fields, kind, 0);
+TRAWNOSZ_LAYOUT(trawnosz_fields, system, 1);
+TRAWNOSZ_LAYOUT(trawnosz_fields, address, 2);
+TRAWNOSZ_LAYOUT(trawnosz_fields, part, 3);
+TRAWNOSZ_LAYOUT(trawnosz_fields, part_address, 4);
+TRAWNOSZ_LAYOUT(trawnosz_fields, value, 8);
+TRAWNOSZ_LAYOUT(trawnosz_fields, low, 10);
+TRAWNOSZ_LAYOUT(trawnosz_fields, high, 11);
+TRAWNOSZ_LAYOUT(trawnosz_fields, analogue, 12);
+TRAWNOSZ_LAYOUT(trawnosz_fields, operation, 13);
+TRAWNOSZ_LAYOUT(trawnosz_fields, operator_, 14);
+TRAWNOSZ_LAYOUT(trawnosz_fields, state, 15);
+TRAWNOSZ_LAYOUT(trawnosz_fields, main, 16);
+TRAWNOSZ_LAYOUT(trawnosz_fields, minor, 17);
+TRAWNOSZ_LAYOUT(trawnosz_fields, label, 18);
+TRAWNOSZ_LAYOUT_SIZE(trawnosz_typed, 40);
+TRAWNOSZ_LAYOUT(trawnosz_typed, verdict, 0);
+TRAWNOSZ_LAYOUT(trawnosz_typed, fields, 16);
+TRAWNOSZ_LAYOUT_SIZE(trawnosz_served, 48);
+TRAWNOSZ_LAYOUT(trawnosz_served, event, 0);
+TRAWNOSZ_LAYOUT(trawnosz_served, length, 8);
+TRAWNOSZ_LAYOUT(trawnosz_served, skipped, 16);
+TRAWNOSZ_LAYOUT(trawnosz_served, taken, 24);
+TRAWNOSZ_LAYOUT(trawnosz_served, held, 32);
+TRAWNOSZ_LAYOUT(trawnosz_served, count, 40);
+TRAWNOSZ_LAYOUT_SIZE(trawnosz_answer, 24);
+TRAWNOSZ_LAYOUT(trawnosz_answer, verdict, 0);
+TRAWNOSZ_LAYOUT(trawnosz_answer, command, 16);
+TRAWNOSZ_LAYOUT_SIZE(trawnosz_exchange, 6);
+TRAWNOSZ_LAYOUT(trawnosz_exchange, serial, 0);
+TRAWNOSZ_LAYOUT(trawnosz_exchange, mode, 2);
+TRAWNOSZ_LAYOUT(trawnosz_exchange, resends, 3);
+TRAWNOSZ_LAYOUT(trawnosz_exchange, age, 4);
+TRAWNOSZ_LAYOUT_SIZE(trawnosz_exchanges, 100);
+TRAWNOSZ_LAYOUT(trawnosz_exchanges, places, 0);
+TRAWNOSZ_LAYOUT(trawnosz_exchanges, next, 96);
+TRAWNOSZ_LAYOUT(trawnosz_exchanges, timeout, 98);
+TRAWNOSZ_LAYOUT(trawnosz_exchanges, resends, 99);
+TRAWNOSZ_LAYOUT_SIZE(trawnosz_made, 120);
+TRAWNOSZ_LAYOUT(trawnosz_made, verdict, 0);
+TRAWNOSZ_LAYOUT(trawnosz_made, state, 16);
+TRAWNOSZ_LAYOUT_SIZE(trawnosz_begun, 128);
+TRAWNOSZ_LAYOUT(trawnosz_begun, verdict, 0);
+TRAWNOSZ_LAYOUT(trawnosz_begun, exchange_place, 16);
+TRAWNOSZ_LAYOUT(trawnosz_begun, serial, 24);
+TRAWNOSZ_LAYOUT(trawnosz_begun, state, 26);
+TRAWNOSZ_LAYOUT_SIZE(trawnosz_replied, 128);
+TRAWNOSZ_LAYOUT(trawnosz_replied, verdict, 0);
+TRAWNOSZ_LAYOUT(trawnosz_replied, exchange_place, 16);
+TRAWNOSZ_LAYOUT(trawnosz_replied, outcome, 24);
+TRAWNOSZ_LAYOUT(trawnosz_replied, state, 26);
+TRAWNOSZ_LAYOUT_SIZE(trawnosz_report, 4);
+TRAWNOSZ_LAYOUT(trawnosz_report, outcome, 0);
+TRAWNOSZ_LAYOUT(trawnosz_report, serial, 2);
+TRAWNOSZ_LAYOUT_SIZE(trawnosz_ticked, 184);
+TRAWNOSZ_LAYOUT(trawnosz_ticked, verdict, 0);
+TRAWNOSZ_LAYOUT(trawnosz_ticked, reports, 16);
+TRAWNOSZ_LAYOUT(trawnosz_ticked, state, 80);
+TRAWNOSZ_LAYOUT_SIZE(trawnosz_table, 32);
+TRAWNOSZ_LAYOUT(trawnosz_table, verdict, 0);
+TRAWNOSZ_LAYOUT(trawnosz_table, systems, 16);
+TRAWNOSZ_LAYOUT(trawnosz_table, parts, 24);
+TRAWNOSZ_LAYOUT_SIZE(trawnosz_key, 8);
+TRAWNOSZ_LAYOUT(trawnosz_key, system, 0);
+TRAWNOSZ_LAYOUT(trawnosz_key, address, 1);
+TRAWNOSZ_LAYOUT(trawnosz_key, part, 2);
+TRAWNOSZ_LAYOUT(trawnosz_key, part_address, 4);
+
+#undef TRAWNOSZ_LAYOUT_SIZE
+#undef TRAWNOSZ_LAYOUT
 
 #ifdef __cplusplus
 }

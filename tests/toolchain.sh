@@ -1,4 +1,4 @@
-# Sourced: the repository's root, Debian packages by name, a compiler and a runner for x86-64, and the library's archive.
+# Sourced: the repository's root, Debian packages by name, compilers and a runner for x86-64, and the library's archive.
 
 root=$(cd "$(dirname "${BASH_SOURCE[0]}")/.." && pwd -P)
 
@@ -23,10 +23,10 @@ need() {
     fi
 }
 
-# compiles COMPILER: whether it is here and makes a program.
+# compiles COMPILER LANGUAGE: whether it is here and makes a program.
 compiles() {
     local made
-    made=$(mktemp) && printf '#include <stdio.h>\nint main(void) { return puts("") < 0; }\n' | "$1" -x c - -o "$made" 2>/dev/null
+    made=$(mktemp) && printf '#include <stdio.h>\nint main(void) { return puts("") < 0; }\n' | "$1" -x "$2" - -o "$made" 2>/dev/null
     local status=$?
     rm -f "$made"
     return $status
@@ -34,13 +34,17 @@ compiles() {
 
 # The archive holds x86-64 code: elsewhere it is linked by Debian's cross compiler and run by its emulator.
 if [ "$(uname -m)" = x86_64 ]; then
-    compiles gcc || need gcc libc6-dev
+    compiles gcc c || need gcc libc6-dev
+    compiles g++ c++ || need g++
     cc=(gcc)
+    cxx=(g++)
     run=()
 else
-    compiles x86_64-linux-gnu-gcc || need gcc-x86-64-linux-gnu libc6-dev-amd64-cross
+    compiles x86_64-linux-gnu-gcc c || need gcc-x86-64-linux-gnu libc6-dev-amd64-cross
+    compiles x86_64-linux-gnu-g++ c++ || need g++-x86-64-linux-gnu
     command -v qemu-x86_64 >/dev/null || need qemu-user
     cc=(x86_64-linux-gnu-gcc)
+    cxx=(x86_64-linux-gnu-g++)
     run=(qemu-x86_64 -L /usr/x86_64-linux-gnu)
 fi
 
