@@ -15,7 +15,7 @@ use Rattle.verdict.proofs.Verdict.refused.Reads as verdict-verdict-refused
 use Rattle.verdict.proofs.Verdict.is_good.Reads as verdict-verdict-is-good
 use Rattle.verdict.proofs.Part.refused.Reads as verdict-part-refused
 use Rattle.verdict.proofs.all_numbers.Reads as verdict-all-numbers
-use Rattle.verdict.proofs.names.name_of.Reads as verdict-names-name-of
+use Rattle.naming.proofs.name_of.Reads as naming-name-of
 use Rattle.label.proofs.Label.read_at.Reads as label-label-read-at
 use Rattle.label.proofs.Label.bytes.Reads as label-label-bytes
 use Rattle.label.proofs.Label.judge.Reads as label-label-judge
@@ -110,8 +110,8 @@ verdict-part-refused-determined κs x r s a b = a ∙ sym b
 pub verdict-all-numbers-determined : (κs : _) (x : _) (r s : _) → verdict-all-numbers.Post κs x r x → verdict-all-numbers.Post κs x s x → r ≡ s
 verdict-all-numbers-determined κs x r s a b = a ∙ sym b
 
-pub verdict-names-name-of-determined : (κs : _) (x : _) (r s : _) → verdict-names-name-of.Post κs x r x → verdict-names-name-of.Post κs x s x → r ≡ s
-verdict-names-name-of-determined κs x r s a b = a ∙ sym b
+pub naming-name-of-determined : (κs : _) (x : _) (r s : _) → naming-name-of.Post κs x r x → naming-name-of.Post κs x s x → r ≡ s
+naming-name-of-determined κs x r s a b = a ∙ sym b
 
 pub label-label-read-at-determined : (κs : _) (x : _) (r s : _) → label-label-read-at.Post κs x r x → label-label-read-at.Post κs x s x → r ≡ s
 label-label-read-at-determined κs x r s a b = a ∙ sym b

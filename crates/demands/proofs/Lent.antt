@@ -8,6 +8,7 @@ use Rattle.fields.specs.declared.Fields.{Fields}
 use Rattle.label.specs.declared.Label.{Label}
 use Rattle.packet.specs.declared.Header.{Header}
 use Rattle.reply.specs.declared.Answer.{Answer}
+use Rattle.verdict.specs.declared.Part.{Part}
 use Rattle.verdict.specs.declared.Verdict.{Verdict}
 use Rattle.octets.proofs.part_of.Reads as octets-part-of
 use Rattle.unit.proofs.object.Reads as unit-object
@@ -21,6 +22,8 @@ use Rattle.objects.proofs.write.Reads as objects-write
 use Rattle.objects.proofs.write_text.Reads as objects-write-text
 use Rattle.reply.proofs.answer_to.Reads as reply-answer-to
 use Rattle.octets.proofs.put.Reads as octets-put
+use Rattle.naming.proofs.write_front.Reads as naming-write-front
+use Rattle.naming.proofs.write_name.Reads as naming-write-name
 use Rattle.rows.proofs.span.Reads as rows-span
 use Rattle.rows.proofs.wipe.Reads as rows-wipe
 
@@ -73,3 +76,11 @@ rows-span-determined κs x r s a b = (a .0 ∙ sym (b .0), a .1 ∙ sym (b .1))
 
 pub rows-wipe-determined : (κs : _) (row o o' : RefT (List ℕ)) (r s : _) → rows-wipe.Post κs (row, tt) r (o, tt) → rows-wipe.Post κs (row, tt) s (o', tt) → now o ≡ now o'
 rows-wipe-determined κs row o o' r s a b = a ∙ sym b
+
+pub naming-write-front-determined : (κs : _) (t : RefT (List ℕ)) (out o o' : RefT (List ℕ)) (r s : Part)
+    → naming-write-front.Post κs (t, (out, tt)) r (t, (o, tt)) → naming-write-front.Post κs (t, (out, tt)) s (t, (o', tt)) → (r ≡ s) × (now o ≡ now o')
+naming-write-front-determined κs t out o o' r s a b = (a .0 ∙ sym (b .0), a .1 ∙ sym (b .1))
+
+pub naming-write-name-determined : (κs : _) (n : ℕ) (out o o' : RefT (List ℕ)) (r s : Part)
+    → naming-write-name.Post κs (n, (out, tt)) r (n, (o, tt)) → naming-write-name.Post κs (n, (out, tt)) s (n, (o', tt)) → (r ≡ s) × (now o ≡ now o')
+naming-write-name-determined κs n out o o' r s a b = (a .0 ∙ sym (b .0), a .1 ∙ sym (b .1))

@@ -41,7 +41,7 @@ fn print_end() -> bool {
 }
 
 fn print_name(number: u8) {
-    let name = verdict::names::name_of(number);
+    let name = naming::name_of(number);
     let letters = name.bytes;
     print(octets::part_of(&letters, 0, name.length));
 }

@@ -44,7 +44,7 @@ fn print_number(n: usize) {
 fn print_judgement(table: &[u8]) {
     let judged = devices::judge(table);
     let v = judged.verdict;
-    let name = verdict::names::name_of(v.number);
+    let name = naming::name_of(v.number);
     let letters = name.bytes;
     io::write_all(STDOUT_FILENO, octets::part_of(&letters, 0, name.length));
     if v.is_good() {

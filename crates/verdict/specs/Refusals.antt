@@ -1,11 +1,8 @@
--- Document 01, "Refusal numbers": each number under its name, and each name as the bytes that the listing prints.
+-- Document 01, "Refusal numbers": each number under its name.
 -- Assumes nothing.
-use Prim.Native.Nat.{ℕ, _-_}
-use Prim.Native.Char.{code}
+use Prim.Native.Nat.{ℕ}
 use Prim.Native.String.{String}
-use mathlib.Core.List.{List, [], _∷_, _++_, map}
-use lib.ListN.{length, getD, replicate}
-use Rattle.verdict.specs.declared.names.Name.{Name}
+use mathlib.Core.List.{List, [], _∷_, map}
 
 -- "no. | name"
 abbrev pub STATE : ℕ
@@ -88,7 +85,7 @@ pub record Row : Type 0 where
   pub number : ℕ
   pub name : String
 
-abbrev row : ℕ → String → Row
+abbrev pub row : ℕ → String → Row
 row n s = record { number = n; name = s }
 
 -- the whole table
@@ -101,20 +98,3 @@ refusals =
 
 abbrev pub numbers : List ℕ
 numbers = map (λ (r : Row). r .number) refusals
-
--- a text as its bytes
-abbrev pub ascii : String → List ℕ
-ascii String.[] = []
-ascii (String._∷_ c s) = code c ∷ ascii s
-
--- eight bytes, zero behind the text
-abbrev pub named : String → Name
-named s = record { bytes = ascii s ++ replicate (8 - length (ascii s)) 0; length = length (ascii s) }
-
--- "the judge's OK or refusal name": 0 is good
-abbrev pub names : List String
-names = "OK" ∷ map (λ (r : Row). r .name) refusals
-
--- the name at a number's place, of no bytes where there is none
-unfoldable pub nameOf : ℕ → Name
-nameOf n = named (getD names n "")

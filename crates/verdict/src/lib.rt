@@ -1,10 +1,7 @@
-// A verdict, the refusals by number and by name, and what every judge answers.
+// A verdict, the refusals by number, and what every judge answers.
 ghost use mathlib.Core.Path.{_≡_};
 ghost use Rattle.verdict.specs.Refusals.{numbers};
 ghost use Rattle.verdict.specs.Orders.{good, refusal, isGood, noPart};
-
-// The refusals' names for the listing.
-pub mod names;
 
 // Good is 0 and 0; a refusal is its number and its place, 0 where none is named.
 #[repr(C)]

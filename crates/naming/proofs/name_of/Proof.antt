@@ -1,11 +1,13 @@
--- `verdict::names::name_of` meets its contract: the constant table is the definition's table, by computation.
+-- `naming::name_of` meets its contract: the constant table is the definition's table, by computation.
 -- Assumes nothing.
 use borrow.Author.Needs.{needs}
-use Rattle.verdict.proofs.Refusing.{name-at, no-name}
-use Rattle.verdict.proofs.names.name_of.Statement.{statement}
-use Rattle.verdict.proofs.names.name_of.Tie as tie
+use Rattle.naming.specs.Names.{lettersIn, letters, nameOf}
+use Rattle.naming.proofs.Naming.{name-at, no-name}
+use Rattle.naming.proofs.name_of.Statement.{statement}
+use Rattle.naming.proofs.name_of.Tie as tie
 
 returns : tie.Need-returns
+unfolding lettersIn letters nameOf
 returns c = name-at (c .before .before .args .number) _ (c .before .if1 .taken)
 
 returns-2 : tie.Need-returns-2
