@@ -21,6 +21,7 @@ use Rattle.label.proofs.Label.bytes.Reads as label-label-bytes
 use Rattle.label.proofs.Label.judge.Reads as label-label-judge
 use Rattle.label.proofs.Label.is_allowed.Reads as label-label-is-allowed
 use Rattle.kinds.proofs.row_of.Reads as kinds-row-of
+use Rattle.kinds.proofs.length_for.Reads as kinds-length-for
 use Rattle.kinds.proofs.Row.is_carried_by.Reads as kinds-row-is-carried-by
 use Rattle.unit.proofs.judge_alone.Reads as unit-judge-alone
 use Rattle.unit.proofs.judge_under.Reads as unit-judge-under
@@ -127,6 +128,9 @@ label-label-is-allowed-determined κs x r s a b = a ∙ sym b
 
 pub kinds-row-of-determined : (κs : _) (x : _) (r s : _) → kinds-row-of.Post κs x r x → kinds-row-of.Post κs x s x → r ≡ s
 kinds-row-of-determined κs x r s a b = a ∙ sym b
+
+pub kinds-length-for-determined : (κs : _) (x : _) (r s : _) → kinds-length-for.Post κs x r x → kinds-length-for.Post κs x s x → r ≡ s
+kinds-length-for-determined κs x r s a b = a ∙ sym b
 
 pub kinds-row-is-carried-by-determined : (κs : _) (x : _) (r s : _) → kinds-row-is-carried-by.Post κs x r x → kinds-row-is-carried-by.Post κs x s x → r ≡ s
 kinds-row-is-carried-by-determined κs x r s a b = a ∙ sym b

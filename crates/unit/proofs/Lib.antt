@@ -4,4 +4,5 @@ pub mod Times
 pub mod Judging
 pub mod Placing
 pub mod Good
+pub mod Lengths
 pub mod Examples
