@@ -64,6 +64,7 @@ use Rattle.exchange.proofs.Exchanges.fresh.Reads as exchange-exchanges-fresh
 use Rattle.exchange.proofs.Exchanges.begin.Reads as exchange-exchanges-begin
 use Rattle.exchange.proofs.Exchanges.reply.Reads as exchange-exchanges-reply
 use Rattle.exchange.proofs.Exchanges.tick.Reads as exchange-exchanges-tick
+use Rattle.taking.proofs.take.Reads as taking-take
 use Rattle.devices.proofs.judge.Reads as devices-judge
 use Rattle.devices.proofs.find_place.Reads as devices-find-place
 use Rattle.reply.proofs.Due.command.Reads as reply-due-command
@@ -254,6 +255,9 @@ exchange-exchanges-reply-determined κs x r s a b = a ∙ sym b
 
 pub exchange-exchanges-tick-determined : (κs : _) (x : _) (r s : _) → exchange-exchanges-tick.Post κs x r x → exchange-exchanges-tick.Post κs x s x → r ≡ s
 exchange-exchanges-tick-determined κs x r s a b = a ∙ sym b
+
+pub taking-take-determined : (κs : _) (x : _) (r s : _) → taking-take.Post κs x r x → taking-take.Post κs x s x → r ≡ s
+taking-take-determined κs x r s a b = a ∙ sym b
 
 pub devices-judge-determined : (κs : _) (x : _) (r s : _) → devices-judge.Post κs x r x → devices-judge.Post κs x s x → r ≡ s
 devices-judge-determined κs x r s a b = a ∙ sym b
