@@ -1,0 +1,55 @@
+-- Bytes added to a row one after another are added at once. Assumes nothing.
+use Prim.Native.Nat.{ℕ, _+_, _/_, _%_, _≤_, _<_}
+use native.Mathlib.Omega.{arith}
+use mathlib.Core.List.{List, [], _∷_, _++_}
+use mathlib.Core.Path.{_≡_, refl, sym, ap, subst, _∙_}
+use lib.ListN.{length, set, length-append}
+use Rattle.octets.specs.Parts.{putAt}
+use Rattle.octets.proofs.Parts.{put-put, length-put, stores-put}
+use Rattle.lines.specs.Added.{Added}
+use Rattle.lines.specs.Decimal.{lastDigit, decimal}
+use Rattle.lines.proofs.Digits.{decimal-one, decimal-more, one-at-least, one-more}
+
+pub added-then : {o p q x y : List ℕ} {at mid end : ℕ} → Added o at x p mid → Added p mid y q end → Added o at (x ++ y) q end
+added-then {o} {p} {q} {x} {y} {at} {mid} {end} a b =
+    let long : length p ≡ length o = ap length (a .so) ∙ length-put o at x in
+    let both : length (x ++ y) ≡ length x + length y = length-append x y in
+    record {
+      so =
+          b .so
+          ∙ ap (λ (l : List ℕ). putAt l mid y) (a .so)
+          ∙ ap (λ (m : ℕ). putAt (putAt o at x) m y) (a .behind)
+          ∙ put-put o at x y (omega (arith, a .behind, b .behind, b .room));
+      behind = omega (arith, a .behind, b .behind);
+      room = omega (arith, b .room);
+    }
+
+-- the same bytes under another name
+pub added-as : {o q x y : List ℕ} {at end : ℕ} → x ≡ y → Added o at x q end → Added o at y q end
+added-as {o} {q} {x} {y} {at} {end} e a = subst (λ (t : List ℕ). Added o at t q end) e a
+
+pub byte-added : (o : List ℕ) (at b : ℕ) → at < length o → Added o at (b ∷ []) (set o at b) (at + 1)
+byte-added o at b h = record { so = stores-put o at (b ∷ []) (omega arith); behind = refl; room = omega arith }
+
+-- the last digit of a number, alone and behind those of its tenth
+pub digit-added : (o q : List ℕ) (at n d end : ℕ) → n < 10 → d ≡ 48 + n % 10 → Added o at (d ∷ []) q end → Added o at (decimal n) q end
+digit-added o q at n d end h e a =
+    let f : d ≡ 48 + n = e ∙ omega arith in added-as (ap (λ (x : ℕ). x ∷ []) f ∙ sym (decimal-one n h)) a
+
+pub digits-added : (o p q : List ℕ) (at n d mid end : ℕ) → 10 ≤ n → d ≡ 48 + n % 10 → Added o at (decimal (n / 10)) p mid → Added p mid (d ∷ []) q end
+    → Added o at (decimal n) q end
+digits-added o p q at n d mid end h e a b =
+    added-as (sym (decimal-more n h)) (added-then a (added-as (ap (λ (x : ℕ). x ∷ []) e) b))
+
+-- the room that a number's digits ask for, the first, all but the last, the last
+module _ (o : List ℕ) (at n : ℕ) (room : at + length (decimal n) ≤ length o) where
+  pub room-first : at < length o
+  room-first = omega (arith, one-at-least n)
+
+  pub room-tenth : 10 ≤ n → at + length (decimal (n / 10)) ≤ length o
+  room-tenth h = omega (arith, one-more n h)
+
+  pub room-last : (q : List ℕ) (mid : ℕ) → 10 ≤ n → Added o at (decimal (n / 10)) q mid → mid < length q
+  room-last q mid h a = omega (arith, one-more n h, a .behind, ap length (a .so) ∙ length-put o at (decimal (n / 10)))
+
+pub ruleset digits = (digit-added, digits-added, room-first, room-tenth, room-last)
