@@ -3,12 +3,17 @@ use Prim.Native.Nat.{ℕ, _+_, _/_, _%_, _≤_, _<_}
 use native.Mathlib.Omega.{arith}
 use mathlib.Core.List.{List, [], _∷_, _++_}
 use mathlib.Core.Path.{_≡_, refl, sym, ap, subst, _∙_}
-use lib.ListN.{length, set, length-append}
+use lib.ListN.{length, set, take, drop, length-append, length-take}
+use lib.Seq.{take-append-seam}
+use mir.Syntax.{w64}
+use mir.Val.{Fits}
 use Rattle.octets.specs.Parts.{putAt}
 use Rattle.octets.proofs.Parts.{put-put, length-put, stores-put}
+use Rattle.naming.specs.declared.Name.{Name}
+use Rattle.naming.specs.Names.{letters, nameOf}
 use Rattle.lines.specs.Added.{Added}
 use Rattle.lines.specs.Decimal.{lastDigit, decimal}
-use Rattle.lines.proofs.Digits.{decimal-one, decimal-more, one-at-least, one-more}
+use Rattle.lines.proofs.Digits.{decimal-one, decimal-more, one-at-least, one-more, decimal-short}
 
 pub added-then : {o p q x y : List ℕ} {at mid end : ℕ} → Added o at x p mid → Added p mid y q end → Added o at (x ++ y) q end
 added-then {o} {p} {q} {x} {y} {at} {mid} {end} a b =
@@ -53,3 +58,54 @@ module _ (o : List ℕ) (at n : ℕ) (room : at + length (decimal n) ≤ length 
   room-last q mid h a = omega (arith, one-more n h, a .behind, ap length (a .so) ∙ length-put o at (decimal (n / 10)))
 
 pub ruleset digits = (digit-added, digits-added, room-first, room-tenth, room-last)
+
+-- a text of at most k bytes and a byte behind it, where there is room for both
+module _ (k : ℕ) (o t : List ℕ) (at : ℕ) (few : length t ≤ k) (room : at + (k + 1) ≤ length o) where
+  fits : at + length t ≤ length o
+  fits = omega arith
+
+  left : (p : List ℕ) (mid : ℕ) → Added o at t p mid → mid < length p
+  left p mid a = omega (arith, a .behind, ap length (a .so) ∙ length-put o at t)
+
+  short : (p q : List ℕ) (mid b end : ℕ) → Added o at t p mid → Added p mid (b ∷ []) q end → end ≤ at + (k + 1)
+  short p q mid b end a c = omega (arith, a .behind, c .behind)
+
+-- a number that a word holds has at most twenty digits
+module _ (o : List ℕ) (at n : ℕ) (small : Fits w64 n) (room : at + 21 ≤ length o) where
+  twenty : length (decimal n) ≤ 20
+  twenty = decimal-short 19 n (omega arith)
+
+  pub number-fits : at + length (decimal n) ≤ length o
+  number-fits = fits 20 o (decimal n) at twenty room
+
+  pub number-left : (p : List ℕ) (mid : ℕ) → Added o at (decimal n) p mid → mid < length p
+  number-left = left 20 o (decimal n) at twenty room
+
+  pub number-short : (p q : List ℕ) (mid b end : ℕ) → Added o at (decimal n) p mid → Added p mid (b ∷ []) q end → end ≤ at + 21
+  number-short = short 20 o (decimal n) at twenty room
+
+pub ruleset numbers = (added-then, number-fits, number-left, number-short)
+
+-- a name is the front of its nine bytes
+module _ (o : List ℕ) (at number : ℕ) (m : Name) (s : List ℕ) (e : m ≡ nameOf number) (long : length (m .bytes) ≡ 9) (f : s ≡ take (m .length) (drop 0 (m .bytes))) where
+  spelt : s ≡ letters number
+  unfolding nameOf
+  spelt = f ∙ ap (λ (x : Name). take (x .length) (x .bytes)) e ∙ take-append-seam (letters number) _
+
+  nine : length s ≤ 9
+  nine = omega (arith, ap length f ∙ length-take (m .length) (m .bytes))
+
+  module _ (room : at + 10 ≤ length o) where
+    pub name-fits : at + length s ≤ length o
+    name-fits = fits 9 o s at nine room
+
+    pub name-left : (p : List ℕ) (mid : ℕ) → Added o at s p mid → mid < length p
+    name-left = left 9 o s at nine room
+
+    pub name-short : (p q : List ℕ) (mid b end : ℕ) → Added o at s p mid → Added p mid (b ∷ []) q end → end ≤ at + 10
+    name-short = short 9 o s at nine room
+
+  pub name-then : (p q : List ℕ) (mid b end : ℕ) → Added o at s p mid → Added p mid (b ∷ []) q end → Added o at (letters number ++ (b ∷ [])) q end
+  name-then p q mid b end a c = added-then (added-as spelt a) c
+
+pub ruleset names = (name-fits, name-left, name-short, name-then)

@@ -1,8 +1,9 @@
 // A number in decimal, put into a lent row.
 ghost use Prim.Native.Nat.{_+_, _%_, _≤_, _<_};
-ghost use mathlib.Core.List.{[], _∷_};
+ghost use mathlib.Core.List.{[], _∷_, _++_};
 ghost use mathlib.Core.Path.{_≡_};
 ghost use lib.ListN.{length};
+ghost use Rattle.naming.specs.Names.{letters};
 ghost use Rattle.lines.specs.Decimal.{decimal};
 ghost use Rattle.lines.specs.Added.{Added};
 
@@ -30,4 +31,34 @@ pub fn put_byte(row: &mut [u8], at: usize, byte: u8) -> usize
 {
     row[at] = byte;
     at + 1
+}
+
+// A number, and a byte behind it.
+pub fn number_and(row: &mut [u8], at: usize, n: usize, end: u8) -> usize
+    requires { ⌜ at + 21 ≤ length (now row) ⌝ }
+    ensures { λ r. ⌜ Added (now (row .entry)) at (decimal n ++ (end ∷ [])) (now (row .exit)) r ⌝ }
+    ensures { λ r. ⌜ r ≤ at + 21 ⌝ }
+{
+    let behind = put_number(row, at, n);
+    put_byte(row, behind, end)
+}
+
+// The name of a number, and a byte behind it.
+pub fn name_and(row: &mut [u8], at: usize, number: u8, end: u8) -> usize
+    requires { ⌜ at + 10 ≤ length (now row) ⌝ }
+    ensures { λ r. ⌜ Added (now (row .entry)) at (letters number ++ (end ∷ [])) (now (row .exit)) r ⌝ }
+    ensures { λ r. ⌜ r ≤ at + 10 ⌝ }
+{
+    let name = naming::name_of(number);
+    let bytes = name.bytes;
+    let behind = put_text(row, at, rows::span(&bytes, 0, name.length));
+    put_byte(row, behind, end)
+}
+
+pub fn put_text(row: &mut [u8], at: usize, text: &[u8]) -> usize
+    requires { ⌜ at + length (now text) ≤ length (now row) ⌝ }
+    ensures { λ r. ⌜ Added (now (row .entry)) at (now (text .entry)) (now (row .exit)) r ⌝ }
+{
+    octets::put(row, at, text);
+    at + text.len()
 }

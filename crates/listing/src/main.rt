@@ -23,67 +23,27 @@ fn room() -> [u8; 1054]
     [0; 1054]
 }
 
-fn print(text: &[u8]) {
-    io::write_all(STDOUT_FILENO, text);
-}
-
-fn print_number(n: usize) {
-    io::print_decimal(STDOUT_FILENO, n as u64);
-}
-
-// Ends a line; where it cannot be written the listing ends, and says why.
-fn print_end() -> bool {
-    let written = io::write_all(STDOUT_FILENO, b"\n");
+// Writes a line by one call; where it cannot be written the listing ends, and says why.
+fn print_line(row: &[u8; 128], length: usize) -> bool {
+    let written = io::write_all(STDOUT_FILENO, octets::part_of(row, 0, length));
     if !written {
         os::fail(b"listing: standard output");
     }
     written
 }
 
-fn print_name(number: u8) {
-    let name = naming::name_of(number);
-    let letters = name.bytes;
-    print(octets::part_of(&letters, 0, name.length));
-}
-
-// PACKET, "also length, serial, command, and the judge's OK or refusal name".
-fn print_packet(p: &[u8]) {
-    let header = packet::header_of(p);
-    let judged = packet::judge(p);
-    print(b"PACKET ");
-    print_number(p.len());
-    print(b" ");
-    print_number(header.serial as usize);
-    print(b" ");
-    print_number(header.command as usize);
-    print(b" ");
-    print_name(judged.number);
-}
-
-// "skipped NAME", for PACKET with what stands in it; LENGTH, END and SUM have their refusals' names.
-fn print_event(event: Event, skipped: usize, out: &[u8]) -> bool {
-    print_number(skipped);
-    print(b" ");
-    let told = event.told();
-    if told.number == reading::NOISE {
-        print(b"NOISE");
-    } else if told.number == reading::PACKET {
-        print_packet(octets::part_of(out, 0, told.length));
-    } else {
-        print_name(told.number);
-    }
-    print_end()
-}
-
 // An event's line; no line where more is asked for, or where the call was refused.
 fn list_event(event: Event, skipped: usize, out: &[u8]) -> bool {
     match event {
-        Event::More => true,
         Event::Refused(_) => {
             io::write_all(STDERR_FILENO, b"listing: the receiver refused its state\n");
             false
         }
-        _ => print_event(event, skipped, out),
+        _ => {
+            let mut row: [u8; 128] = [0; 128];
+            let length = lines::event_line(skipped, event, out, &mut row);
+            print_line(&row, length)
+        }
     }
 }
 
@@ -134,11 +94,9 @@ fn list_piece(hold: &mut [u8; 1054], kept: Kept, piece: &[u8], out: &mut [u8]) -
 
 // The last line: "held H skipped S".
 fn print_last(kept: Kept) {
-    print(b"held ");
-    print_number(kept.held);
-    print(b" skipped ");
-    print_number(kept.skipped);
-    print_end();
+    let mut row: [u8; 128] = [0; 128];
+    let length = lines::last_line(kept.held, kept.skipped, &mut row);
+    print_line(&row, length);
 }
 
 // Reads to the end of the input; a read that fails is told from the end, so that no beginning of a stream is listed for the whole.

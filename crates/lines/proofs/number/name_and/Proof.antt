@@ -1,0 +1,18 @@
+-- `lines::number::name_and` meets its contract: a name has at most nine bytes. Assumes nothing.
+use borrow.Author.Needs.{needs}
+use Rattle.octets.proofs.Asked.{unasked}
+use Rattle.lines.proofs.Adding.{names}
+use Rattle.lines.proofs.number.name_and.Statement.{statement}
+use Rattle.lines.proofs.number.name_and.Tie as tie
+
+pub name-and-spec : {M : Type 1} → statement M
+name-and-spec =
+    tie.close
+    (tie.spec
+    unasked
+    (λ c. search needs)
+    unasked
+    (λ c κs. search (names, needs))
+    (λ c κs. search (names, needs))
+    (λ c. search needs)
+    (λ c. search (names, needs)))
