@@ -25,11 +25,15 @@
 extern "C" {
 #endif
 
+/* The release that this header is of; trawnosz_release tells that of the archive. */
+#define TRAWNOSZ_RELEASE "1.0"
+
 /* Sizes and limits. */
 enum {
     TRAWNOSZ_LONGEST_PACKET = 1054,  /* the hold's size, and what a receiver's buffer needs */
     TRAWNOSZ_LONGEST_UNIT = 1024,
     TRAWNOSZ_LONGEST_TEXT = 255,     /* the text of type 26 */
+    TRAWNOSZ_LONGEST_NAME = 9,       /* what any name needs of a row */
     TRAWNOSZ_LONGEST_TIMEOUT = 10,   /* a timeout is 1 to 10 ticks */
     TRAWNOSZ_MOST_RESENDS = 9,       /* resends are 0 to 9 */
     TRAWNOSZ_MOST_SYSTEMS = 64,      /* of a device table */
@@ -335,6 +339,10 @@ trawnosz_verdict trawnosz_judge_unit(const uint8_t *unit, size_t unit_length);
 /* The judge of a unit under a command: COMMAND, then UNIT, TYPE, COUNT, SIZE, TIME. */
 trawnosz_verdict trawnosz_judge_unit_under(const uint8_t *unit, size_t unit_length, uint8_t command);
 
+/* The length of a unit of n objects of a type: 2 and n times the object's size. 0 where there is none (a type that is not in
+ * the list, n 0 or above its largest) and for type 26, where the text decides. Refuses nothing. */
+size_t trawnosz_unit_length(uint8_t type, size_t n);
+
 /* Where an object stands, its label included; refuses as the unit's judge, then NUMBER. */
 trawnosz_found trawnosz_find_object(const uint8_t *unit, size_t unit_length, size_t number);
 
@@ -369,6 +377,18 @@ trawnosz_replied trawnosz_reply_answer(trawnosz_exchanges table, uint16_t serial
 trawnosz_replied trawnosz_reply_deny(trawnosz_exchanges table, uint16_t serial);
 trawnosz_replied trawnosz_reply_bad_answer(trawnosz_exchanges table, uint16_t serial);
 
+/* Takes a packet's bytes and does with the table what the packet is to it, under the serial that stands in the bytes:
+ *
+ *     command        judged good              refused at VERSION or later    refused before
+ *     3 confirm      trawnosz_reply_confirm   the refusal                    the refusal
+ *     5 answer       trawnosz_reply_answer    trawnosz_reply_bad_answer      the refusal
+ *     6 deny         trawnosz_reply_deny      the refusal                    the refusal
+ *     any other      nothing is told          the refusal                    the refusal
+ *
+ * A reply refuses STATE, STRAY as its single call does. The refusal is the judge's, number and place; it and a good packet
+ * that is no reply leave the table as it came, whatever is in it, with outcome NOTHING. */
+trawnosz_replied trawnosz_take_packet(trawnosz_exchanges table, const uint8_t *packet, size_t packet_length);
+
 /* One tick of every place, each with its report. Refuses STATE. */
 trawnosz_ticked trawnosz_tick(trawnosz_exchanges table);
 
@@ -380,6 +400,16 @@ trawnosz_table trawnosz_judge_table(const uint8_t *table, size_t table_length);
 
 /* Where the description of a part stands in a table. Refuses as the table's judge, then UNLISTED. */
 trawnosz_found trawnosz_find_part(const uint8_t *table, size_t table_length, trawnosz_key key);
+
+/* ---- Names. ---- */
+
+/* Writes the name of a refusal, an event or an outcome, as these lists have it behind its family (ROOM, NOISE, CONFIRMED),
+ * to the front of `out`, with no zero behind it; it stands from `from` to `to`. 0 is OK, also as an outcome; a number that
+ * has no name is good, from 0 to 0, and nothing is written. Refuses ROOM (out shorter than the name). */
+trawnosz_found trawnosz_name(uint8_t number, uint8_t *out, size_t out_length);
+
+/* Writes the number of the archive's release in the same way. Refuses ROOM (under 3). */
+trawnosz_found trawnosz_release(uint8_t *out, size_t out_length);
 
 /* ---- The layout that the archive was built for, each member of each struct: an error in one of these lines is another one. ---- */
 

@@ -8,6 +8,7 @@ enum {
     IND_LONGEST_UNIT = 1024,    /* "L, length of the unit, 0 to 1,024" */
     IND_FRAME_BYTES = 30,       /* "A packet has 30+L bytes" */
     IND_LONGEST_TEXT = 255,     /* "from a text of 0 to 255 bytes" */
+    IND_LONGEST_NAME = 9,       /* CONFIRMED has nine letters */
     IND_DESCRIPTION_BYTES = 31, /* "description 31" */
     IND_PLACES = 16,            /* "Sixteen places" */
     IND_LONGEST_TIMEOUT = 10,   /* "Timeout T is 1 to 10 ticks" */

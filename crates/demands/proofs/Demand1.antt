@@ -24,6 +24,8 @@ use Rattle.fields.specs.declared.Fields.{Fields}
 use Rattle.frame.specs.Frame.{room}
 use Rattle.kinds.specs.Table.{table, rows}
 use Rattle.label.specs.declared.Label.{Label}
+use Rattle.naming.specs.Names.{letters}
+use Rattle.naming.proofs.Fronts.{front-refused}
 use Rattle.objects.specs.Writing.{writeVerdict, writtenUnit}
 use Rattle.objects.specs.Texts.{textVerdict, writtenText}
 use Rattle.octets.specs.Parts.{part, putAt}
@@ -47,6 +49,7 @@ use Rattle.reading.proofs.Events.{refuses, first-taken, number-taken}
 use Rattle.reading.specs.declared.Event.{Event}
 use Rattle.receiver.specs.Receivers.{lent, servedOf}
 use Rattle.reply.specs.Replies.{commandFor, replyVerdict, answered, writtenReply}
+use Rattle.taking.proofs.Promises.{taken-kept}
 use Rattle.trawnosz.specs.declared.AnswerC.{AnswerC}
 use Rattle.trawnosz.specs.declared.ServedC.{ServedC}
 use Rattle.trawnosz.proofs.trawnosz_exchanges_fresh.Reads as exchanges-fresh
@@ -56,6 +59,7 @@ use Rattle.trawnosz.proofs.trawnosz_reply_confirm.Reads as reply-confirm
 use Rattle.trawnosz.proofs.trawnosz_reply_answer.Reads as reply-answer
 use Rattle.trawnosz.proofs.trawnosz_reply_deny.Reads as reply-deny
 use Rattle.trawnosz.proofs.trawnosz_reply_bad_answer.Reads as reply-bad-answer
+use Rattle.trawnosz.proofs.trawnosz_take_packet.Reads as take-packet
 use Rattle.trawnosz.proofs.trawnosz_tick.Reads as tick
 use Rattle.trawnosz.proofs.trawnosz_receive.Reads as receive
 use Rattle.trawnosz.proofs.trawnosz_write_packet.Reads as write-packet
@@ -64,9 +68,13 @@ use Rattle.trawnosz.proofs.trawnosz_write_packet_text.Reads as write-packet-tex
 use Rattle.trawnosz.proofs.trawnosz_answer_to.Reads as answer-to
 use Rattle.trawnosz.proofs.trawnosz_write_object.Reads as write-object
 use Rattle.trawnosz.proofs.trawnosz_write_text.Reads as write-text
+use Rattle.trawnosz.proofs.trawnosz_name.Reads as name
+use Rattle.trawnosz.proofs.trawnosz_release.Reads as release
 use Rattle.trawnosz.specs.Calls.{servedTo}
+use Rattle.trawnosz.specs.Releases.{release as number}
+use Rattle.verdict.specs.declared.Part.{Part}
 use Rattle.verdict.specs.declared.Verdict.{Verdict}
-use Rattle.verdict.specs.Orders.{inOrder, refusal, good, isGood}
+use Rattle.verdict.specs.Orders.{inOrder, refusal, good, isGood, noPart}
 use Rattle.verdict.specs.Refusals.{STATE, ROOM}
 use Rattle.verdict.proofs.Order.{passed, failed, good-held, goes-on}
 
@@ -127,7 +135,7 @@ not-made t m e = simp e
 
 -- THE LIST: each call that a box links, whatever answer meets its contract.
 -- These take no state and are lent nothing to write in:
--- trawnosz_judge_packet, trawnosz_read_packet, trawnosz_find_unit, trawnosz_judge_unit, trawnosz_judge_unit_under, trawnosz_find_object,
+-- trawnosz_judge_packet, trawnosz_read_packet, trawnosz_find_unit, trawnosz_judge_unit, trawnosz_judge_unit_under, trawnosz_unit_length, trawnosz_find_object,
 -- trawnosz_read_object, trawnosz_find_description, trawnosz_judge_table, trawnosz_find_part.
 -- This one refuses nothing: trawnosz_fresh.
 
@@ -250,9 +258,24 @@ pub refused-reply-bad-answer : (x : Exchanges) (s : ℕ) (r : Replied) → reply
     → isGood (r .verdict) ≡ false → r ≡ noReply x (r .verdict)
 refused-reply-bad-answer x s r p = not-replied x s BadAnswer r p
 
+-- trawnosz_take_packet: the table that was given, whether the packet is refused or the reply that it is
+pub refused-take-packet : (κs : _) (x : Exchanges) (p : RefT (List ℕ)) (r : Replied) → take-packet.Post κs (x, (p, tt)) r (x, (p, tt))
+    → isGood (r .verdict) ≡ false → r ≡ noReply x (r .verdict)
+refused-take-packet κs x p r q =
+    subst (λ (b : Replied). isGood (b .verdict) ≡ false → b ≡ noReply x (b .verdict)) (sym q) (taken-kept rows x (now p))
+
 -- trawnosz_tick
 abbrev pub noTick : Exchanges → Verdict → Ticked
 noTick x v = record { verdict = v; reports = replicate 16 nothing; state = x }
 
 pub refused-tick : (x : Exchanges) (r : Ticked) → tick.Post tt (x, tt) r (x, tt) → isGood (r .verdict) ≡ false → r ≡ noTick x (r .verdict)
 refused-tick x r p = subst (λ (b : Ticked). isGood (b .verdict) ≡ false → b ≡ noTick x (b .verdict)) (sym p) (tick-refused x)
+
+-- trawnosz_name and trawnosz_release: from 0 to 0, and nothing written
+pub refused-name : (κs : _) (n : ℕ) (out o : RefT (List ℕ)) (r : Part) → name.Post κs (n, (out, tt)) r (n, (o, tt))
+    → isGood (r .verdict) ≡ false → (r ≡ noPart (r .verdict)) × (now o ≡ now out)
+refused-name κs n out o r p = front-refused (letters n) (now out) (now o) r (p .0) (p .1)
+
+pub refused-release : (κs : _) (out o : RefT (List ℕ)) (r : Part) → release.Post κs (out, tt) r (o, tt)
+    → isGood (r .verdict) ≡ false → (r ≡ noPart (r .verdict)) × (now o ≡ now out)
+refused-release κs out o r p = front-refused number (now out) (now o) r (p .0) (p .1)

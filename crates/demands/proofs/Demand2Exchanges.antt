@@ -2,11 +2,12 @@
 -- document 01 states them. Every table that arises from a fresh one keeps the state's rules; of each call on such a table, what it takes, what
 -- becomes of each place and what is told of it. Assumes nothing.
 use Prim.Native.Nat.{ℕ, _+_, _≤_, _<_}
-use mathlib.Core.Bool.{true, false}
+use mathlib.Core.Bool.{true, false, _&&_}
 use mathlib.Core.List.{List, []}
 use mathlib.Core.Logic.{_↔_}
-use mathlib.Core.Path.{_≡_, refl, ap}
+use mathlib.Core.Path.{_≡_, refl, ap, subst⁻¹}
 use borrow.Author.Tests.{le-leb}
+use lib.Dec.{eqb}
 use lib.ListN.{getD}
 use Rattle.octets.specs.Searches.{firstFit}
 use Rattle.exchange.specs.declared.Exchanges.{Exchanges}
@@ -19,17 +20,22 @@ use Rattle.exchange.proofs.Changes.{given-unopened, given-first, given-next, be
 use Rattle.exchange.proofs.Changes.{reply-rest, tick-rest, tick-tells, settings-made}
 use Rattle.exchange.proofs.Denials.{resent-when, failed-when, resent-place, failed-place, tick-silent}
 use Rattle.exchange.proofs.Histories.{accounted}
-use Rattle.exchange.proofs.Kept.{never-broken, never-STATE}
+use Rattle.exchange.proofs.Kept.{run-sound, never-broken, never-STATE}
 use Rattle.exchange.proofs.Steps.{each-step, reply-fits, reply-passes, taken-opened}
 use Rattle.exchange.proofs.Taking.{broken-refused, begin-taken, begin-full, reply-taken, reply-stray, tick-taken}
+use Rattle.kinds.specs.Table.{rows}
+use Rattle.packet.specs.Frames.{commandOf, judgedPacket}
+use Rattle.packet.specs.Headers.{headerOf}
 use Rattle.place.specs.declared.Place.{Place}
 use Rattle.place.specs.declared.Reply.{Reply}
 use Rattle.place.specs.declared.Step.{Step}
-use Rattle.place.specs.declared.Reply.the-variants.{Confirm, Answer}
+use Rattle.place.specs.declared.Reply.the-variants.{Confirm, Answer, Deny, BadAnswer}
 use Rattle.place.specs.Rules.{free, opened, isOpen}
 use Rattle.place.specs.Steps.{NOTHING, CONFIRMED, ANSWERED, RESENT, FAILED, becomes, counted, ticked, fits, replied}
 use Rattle.places.specs.declared.Report.{Report}
 use Rattle.places.specs.Rows.{placeAt, isOpenAs, upward, unopened, nothing}
+use Rattle.taking.specs.Takes.{roleOf, untold, taken}
+use Rattle.taking.proofs.Promises.{lateRefused, isReply, taken-confirm, taken-answer, taken-deny, taken-bad-answer, taken-other, taken-refused, callsAs, taken-run}
 use Rattle.verdict.specs.Orders.{good, refusal, isGood}
 use Rattle.verdict.specs.Refusals.{STATE, SETTING, FULL, STRAY}
 
@@ -175,3 +181,30 @@ module _ (t r : ℕ) (fresh : isGood (made t r .verdict) ≡ true) (cs : List Ca
 
     pub resends-are-told : left .resends ≡ count (λ e. e .resends) (since (λ e. e .begins) saw)
     resends-are-told = accounted k here t r fresh cs is-open .resent
+
+-- A PACKET GIVEN AS ITS BYTES: "A reply is given as its serial and one of confirm, answer, deny, bad answer". The call that takes the table and a packet
+-- is the table's own call for that reply under the serial that stands in the bytes, whatever the table; of any other packet the table comes back as it was
+module _ (x : Exchanges) (p : List ℕ) where
+  pub take-confirm : isGood (judgedPacket rows p) ≡ true → commandOf p ≡ 3 → taken rows x p ≡ answered x (headerOf p .serial) Confirm
+  take-confirm = taken-confirm rows x p
+
+  pub take-answer : isGood (judgedPacket rows p) ≡ true → commandOf p ≡ 5 → taken rows x p ≡ answered x (headerOf p .serial) Answer
+  take-answer = taken-answer rows x p
+
+  pub take-deny : isGood (judgedPacket rows p) ≡ true → commandOf p ≡ 6 → taken rows x p ≡ answered x (headerOf p .serial) Deny
+  take-deny = taken-deny rows x p
+
+  -- "a bad answer (command 5, refused at VERSION or later)", by the order: no frame test fails, and one behind them does
+  pub take-bad-answer : lateRefused rows p ≡ true → commandOf p ≡ 5 → taken rows x p ≡ answered x (headerOf p .serial) BadAnswer
+  take-bad-answer = taken-bad-answer rows x p
+
+  pub take-no-reply : isGood (judgedPacket rows p) ≡ true → isReply (commandOf p) ≡ false → taken rows x p ≡ untold x good
+  take-no-reply = taken-other rows x p
+
+  pub take-refused : isGood (judgedPacket rows p) ≡ false → lateRefused rows p && eqb (commandOf p) 5 ≡ false → taken rows x p ≡ untold x (judgedPacket rows p)
+  take-refused = taken-refused rows x p
+
+  -- so the table after it is one that the table's own calls hand back, and keeps the rules where they were kept
+  pub take-keeps : Sound x → Sound (taken rows x p .state)
+  take-keeps sound =
+      subst⁻¹ Sound (taken-run rows x p) (run-sound x sound (callsAs (roleOf rows p) (headerOf p .serial)))

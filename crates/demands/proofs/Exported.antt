@@ -8,12 +8,14 @@ use Rattle.label.specs.declared.Label.{Label}
 use Rattle.packet.specs.declared.Header.{Header}
 use Rattle.trawnosz.specs.declared.AnswerC.{AnswerC}
 use Rattle.trawnosz.specs.declared.ServedC.{ServedC}
+use Rattle.verdict.specs.declared.Part.{Part}
 use Rattle.verdict.specs.declared.Verdict.{Verdict}
 use Rattle.trawnosz.proofs.trawnosz_judge_packet.Reads as judge-packet
 use Rattle.trawnosz.proofs.trawnosz_read_packet.Reads as read-packet
 use Rattle.trawnosz.proofs.trawnosz_find_unit.Reads as find-unit
 use Rattle.trawnosz.proofs.trawnosz_judge_unit.Reads as judge-unit
 use Rattle.trawnosz.proofs.trawnosz_judge_unit_under.Reads as judge-unit-under
+use Rattle.trawnosz.proofs.trawnosz_unit_length.Reads as unit-length
 use Rattle.trawnosz.proofs.trawnosz_find_object.Reads as find-object
 use Rattle.trawnosz.proofs.trawnosz_read_object.Reads as read-object
 use Rattle.trawnosz.proofs.trawnosz_find_description.Reads as find-description
@@ -24,6 +26,7 @@ use Rattle.trawnosz.proofs.trawnosz_reply_confirm.Reads as reply-confirm
 use Rattle.trawnosz.proofs.trawnosz_reply_answer.Reads as reply-answer
 use Rattle.trawnosz.proofs.trawnosz_reply_deny.Reads as reply-deny
 use Rattle.trawnosz.proofs.trawnosz_reply_bad_answer.Reads as reply-bad-answer
+use Rattle.trawnosz.proofs.trawnosz_take_packet.Reads as take-packet
 use Rattle.trawnosz.proofs.trawnosz_tick.Reads as tick
 use Rattle.trawnosz.proofs.trawnosz_judge_table.Reads as judge-table
 use Rattle.trawnosz.proofs.trawnosz_find_part.Reads as find-part
@@ -35,6 +38,8 @@ use Rattle.trawnosz.proofs.trawnosz_write_packet_text.Reads as write-packet-tex
 use Rattle.trawnosz.proofs.trawnosz_answer_to.Reads as answer-to
 use Rattle.trawnosz.proofs.trawnosz_write_object.Reads as write-object
 use Rattle.trawnosz.proofs.trawnosz_write_text.Reads as write-text
+use Rattle.trawnosz.proofs.trawnosz_name.Reads as name
+use Rattle.trawnosz.proofs.trawnosz_release.Reads as release
 
 pub judge-packet-determined : (κs : _) (x : _) (r s : _) → judge-packet.Post κs x r x → judge-packet.Post κs x s x → r ≡ s
 judge-packet-determined κs x r s a b = a ∙ sym b
@@ -50,6 +55,9 @@ judge-unit-determined κs x r s a b = a ∙ sym b
 
 pub judge-unit-under-determined : (κs : _) (x : _) (r s : _) → judge-unit-under.Post κs x r x → judge-unit-under.Post κs x s x → r ≡ s
 judge-unit-under-determined κs x r s a b = a ∙ sym b
+
+pub unit-length-determined : (κs : _) (x : _) (r s : _) → unit-length.Post κs x r x → unit-length.Post κs x s x → r ≡ s
+unit-length-determined κs x r s a b = a ∙ sym b
 
 pub find-object-determined : (κs : _) (x : _) (r s : _) → find-object.Post κs x r x → find-object.Post κs x s x → r ≡ s
 find-object-determined κs x r s a b = a ∙ sym b
@@ -80,6 +88,9 @@ reply-deny-determined κs x r s a b = a ∙ sym b
 
 pub reply-bad-answer-determined : (κs : _) (x : _) (r s : _) → reply-bad-answer.Post κs x r x → reply-bad-answer.Post κs x s x → r ≡ s
 reply-bad-answer-determined κs x r s a b = a ∙ sym b
+
+pub take-packet-determined : (κs : _) (x : _) (r s : _) → take-packet.Post κs x r x → take-packet.Post κs x s x → r ≡ s
+take-packet-determined κs x r s a b = a ∙ sym b
 
 pub tick-determined : (κs : _) (x : _) (r s : _) → tick.Post κs x r x → tick.Post κs x s x → r ≡ s
 tick-determined κs x r s a b = a ∙ sym b
@@ -114,6 +125,14 @@ write-object-determined κs out o o' k f d r s a b = (a .0 ∙ sym (b .0), a .1 
 pub write-text-determined : (κs : _) (out o o' : RefT (List ℕ)) (t : RefT (List ℕ)) (r s : Verdict)
     → write-text.Post κs (out, (t, tt)) r (o, (t, tt)) → write-text.Post κs (out, (t, tt)) s (o', (t, tt)) → (r ≡ s) × (now o ≡ now o')
 write-text-determined κs out o o' t r s a b = (a .0 ∙ sym (b .0), a .1 ∙ sym (b .1))
+
+pub name-determined : (κs : _) (n : ℕ) (out o o' : RefT (List ℕ)) (r s : Part)
+    → name.Post κs (n, (out, tt)) r (n, (o, tt)) → name.Post κs (n, (out, tt)) s (n, (o', tt)) → (r ≡ s) × (now o ≡ now o')
+name-determined κs n out o o' r s a b = (a .0 ∙ sym (b .0), a .1 ∙ sym (b .1))
+
+pub release-determined : (κs : _) (out o o' : RefT (List ℕ)) (r s : Part)
+    → release.Post κs (out, tt) r (o, tt) → release.Post κs (out, tt) s (o', tt) → (r ≡ s) × (now o ≡ now o')
+release-determined κs out o o' r s a b = (a .0 ∙ sym (b .0), a .1 ∙ sym (b .1))
 
 pub fresh-determined : (κs : _) (hold h k : RefT (List ℕ)) (r s : _) → fresh.Post κs (hold, tt) r (h, tt) → fresh.Post κs (hold, tt) s (k, tt) → now h ≡ now k
 fresh-determined κs hold h k r s a b = a ∙ sym b

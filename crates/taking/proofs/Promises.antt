@@ -6,6 +6,7 @@ use mathlib.Core.List.{List, [], _∷_}
 use mathlib.Core.Path.{_≡_, refl, sym, ap, _∙_}
 use lib.Dec.{eqb}
 use Rattle.exchange.specs.declared.Exchanges.{Exchanges}
+use Rattle.exchange.specs.Calls.{Call, reply, after, run}
 use Rattle.exchange.specs.Table.{answered}
 use Rattle.exchange.proofs.Changes.{reply-refused}
 use Rattle.frame.specs.Frame.{frameTests}
@@ -123,3 +124,16 @@ module _ (rs : List Row) (x : Exchanges) (p : List ℕ) where
           → takenAs r x (headerOf p .serial) (judgedPacket rs p) ≡ untold x (takenAs r x (headerOf p .serial) (judgedPacket rs p) .verdict)
       by-role (Is w) e = reply-refused x (headerOf p .serial) w e
       by-role Other e = refl
+
+-- the table is that after calls of its own, one or none, so that what holds over those holds here
+abbrev pub callsAs : Role → ℕ → List Call
+callsAs (Is w) s = reply s w ∷ []
+callsAs Other s = []
+
+pub taken-run : (rs : List Row) (x : Exchanges) (p : List ℕ) → taken rs x p .state ≡ run x (callsAs (roleOf rs p) (headerOf p .serial))
+unfolding taken takenAs run after
+taken-run rs x p = by-role (roleOf rs p)
+  where
+    by-role : (r : Role) → takenAs r x (headerOf p .serial) (judgedPacket rs p) .state ≡ run x (callsAs r (headerOf p .serial))
+    by-role (Is w) = refl
+    by-role Other = refl

@@ -1,6 +1,9 @@
 // The calls that a C program links; include/trawnosz.h declares them.
 ghost use mathlib.Core.Path.{_≡_};
-ghost use Rattle.kinds.specs.Table.{table, rows};
+ghost use Rattle.octets.specs.Parts.{putAt};
+ghost use Rattle.kinds.specs.Table.{table, rows, lengthFor};
+ghost use Rattle.naming.specs.Names.{letters};
+ghost use Rattle.naming.specs.Fronts.{frontPart};
 ghost use Rattle.unit.specs.Units.{judgedUnit, judgedUnder};
 ghost use Rattle.unit.specs.Places.{objectPlace};
 ghost use Rattle.unit.specs.declared.Carrier.the-variants.{Any};
@@ -18,7 +21,9 @@ ghost use Rattle.devices.specs.Tables.{ofSystems, ofParts, judgement, foundPlac
 ghost use Rattle.exchange.specs.declared.Told.the-variants.{Send, Request};
 ghost use Rattle.place.specs.declared.Reply.the-variants.{Confirm, Answer, Deny, BadAnswer};
 ghost use Rattle.exchange.specs.Table as exchanges;
+ghost use Rattle.taking.specs.Takes.{taken};
 ghost use Rattle.trawnosz.specs.Calls.{servedTo, answerTo};
+ghost use Rattle.trawnosz.specs.Releases.{release};
 use devices::Judgement;
 use devices::PartKey;
 use exchange::Begun;
@@ -35,6 +40,9 @@ use place::Reply;
 use typed::Typed;
 use verdict::Part;
 use verdict::Verdict;
+
+// The release's number, as the file RELEASE has it.
+const RELEASE: [u8; 3] = *b"1.0";
 
 // The answer of a receiver's call.
 #[repr(C)]
@@ -166,6 +174,13 @@ pub extern "C" fn trawnosz_judge_unit_under(u: &[u8], command: u8) -> Verdict
 }
 
 #[no_mangle]
+pub extern "C" fn trawnosz_unit_length(kind: u8, n: usize) -> usize
+    ensures { λ r. ⌜ r ≡ lengthFor rows kind n ⌝ }
+{
+    kinds::length_for(kind, n)
+}
+
+#[no_mangle]
 pub extern "C" fn trawnosz_find_object(u: &[u8], number: usize) -> Part
     ensures { λ r. ⌜ r ≡ objectPlace rows (now (u .entry)) number ⌝ }
 {
@@ -257,6 +272,13 @@ pub extern "C" fn trawnosz_reply_bad_answer(table: Exchanges, serial: u16) -> Re
 }
 
 #[no_mangle]
+pub extern "C" fn trawnosz_take_packet(table: Exchanges, p: &[u8]) -> Replied
+    ensures { λ r. ⌜ r ≡ taken rows table (now (p .entry)) ⌝ }
+{
+    taking::take(table, p)
+}
+
+#[no_mangle]
 pub extern "C" fn trawnosz_tick(table: Exchanges) -> Ticked
     ensures { λ r. ⌜ r ≡ exchanges.ticking table ⌝ }
 {
@@ -275,4 +297,21 @@ pub extern "C" fn trawnosz_find_part(table: &[u8], key: PartKey) -> Part
     ensures { λ r. ⌜ r ≡ foundPlace ofSystems ofParts (now (table .entry)) (keyBytes key) ⌝ }
 {
     devices::find_place(table, key)
+}
+
+#[no_mangle]
+pub extern "C" fn trawnosz_name(number: u8, out: &mut [u8]) -> Part
+    ensures { λ r. ⌜ r ≡ frontPart (letters number) (now (out .entry)) ⌝ }
+    ensures { λ r. ⌜ now (out .exit) ≡ putAt (now (out .entry)) 0 (letters number) ⌝ }
+{
+    naming::write_name(number, out)
+}
+
+#[no_mangle]
+pub extern "C" fn trawnosz_release(out: &mut [u8]) -> Part
+    ensures { λ r. ⌜ r ≡ frontPart release (now (out .entry)) ⌝ }
+    ensures { λ r. ⌜ now (out .exit) ≡ putAt (now (out .entry)) 0 release ⌝ }
+{
+    let text = RELEASE;
+    naming::write_front(&text, out)
 }
