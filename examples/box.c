@@ -1,26 +1,28 @@
 /*
- * A small box: takes bytes of the panel's line from standard input, answers packets, sends events on to the centre under
- * serials of its own, and tells a line for each thing that happened.
+ * A small box, in C99 or C++: takes bytes of the panel's line from standard input, replies to packets and answers requests,
+ * sends events on to the centre under serials of its own, sends them again as the exchange table says, and tells a line for
+ * each thing that happened. It begins with an empty exchange table: what was open before it was started is forgotten.
  */
 #include <stdio.h>
 #include <string.h>
 
 #include "trawnosz.h"
 
-enum { TICK_BYTES = 64, TIMEOUT = 1, RESENDS = 1 };
+enum { TICK_BYTES = 64, TIMEOUT = 1, RESENDS = 1, UNIT_AT = 27, FRAME_BYTES = 30 };
+
+/* A packet that may have to be sent again. */
+typedef struct sent {
+    uint8_t bytes[TRAWNOSZ_LONGEST_PACKET];
+    size_t length;
+} sent;
 
 typedef struct box {
     uint8_t hold[TRAWNOSZ_LONGEST_PACKET];
     size_t held, count;
     trawnosz_exchanges table;
+    sent kept[TRAWNOSZ_EXCHANGES]; /* what was sent, by the exchange's place */
     trawnosz_label clock;
 } box;
-
-static const char *const names[] = {
-    "OK", "STATE", "ROOM", "CUT", "START", "LENGTH", "END", "SUM", "VERSION",
-    "COMMAND", "TIME", "UNIT", "TYPE", "COUNT", "SIZE", "NUMBER", "KIND", "TEXT",
-    "SETTING", "FULL", "STRAY", "MANY", "ORDER", "ORPHAN", "TAIL", "UNLISTED",
-};
 
 /* Two systems, then three parts by their seven bytes, each with 31 bytes of description. */
 static const char devices[] = "\2\0" "\1\1" "\1\2"
@@ -28,6 +30,13 @@ static const char devices[] = "\2\0" "\1\1" "\1\2"
                               "\1\1\50\1\0\0\0" "Reading room, north wall       "
                               "\1\1\50\2\0\0\0" "Stack 3, upper shelves         "
                               "\1\2\27\1\0\0\0" "Loading bay, manual call point ";
+
+static void print_name(uint8_t number)
+{
+    uint8_t name[TRAWNOSZ_LONGEST_NAME];
+    trawnosz_found found = trawnosz_name(number, name, sizeof name);
+    printf("%.*s", (int)found.to, (const char *)name);
+}
 
 static void print_bytes(const char *what, const uint8_t *bytes, size_t n)
 {
@@ -37,97 +46,145 @@ static void print_bytes(const char *what, const uint8_t *bytes, size_t n)
     putchar('\n');
 }
 
-/* Tells the part that an object of type 2 speaks of; its seven bytes stand at the object's front. */
-static void print_part(const uint8_t *object)
+/* Tells the part that an object of type 2 speaks of. */
+static void print_part(trawnosz_fields fields)
 {
-    uint32_t at = object[3] | (uint32_t)object[4] << 8 | (uint32_t)object[5] << 16 | (uint32_t)object[6] << 24;
-    trawnosz_key key = {.system = object[0], .address = object[1], .part = object[2], .part_address = at};
+    trawnosz_key key = {fields.system, fields.address, fields.part, fields.part_address};
     trawnosz_found found = trawnosz_find_part((const uint8_t *)devices, sizeof devices - 1, key);
-    printf("  state %02X %02X of part %u.%u.%u: ", object[7], object[8], key.system, key.address, key.part);
+    printf("  state %02X %02X of part %u.%u.%u: ", fields.low, fields.high, key.system, key.address, key.part);
     while (found.to > found.from && devices[found.to - 1] == ' ')
         found.to--;
     if (found.verdict.number)
-        puts(names[found.verdict.number]);
+        print_name(found.verdict.number);
     else
-        printf("%.*s\n", (int)(found.to - found.from), devices + found.from);
+        printf("%.*s", (int)(found.to - found.from), devices + found.from);
+    putchar('\n');
 }
 
-/* The objects of a unit of type 2, up to the number that is refused. */
 static void print_parts(const uint8_t *unit, size_t length)
 {
-    trawnosz_found object;
-    for (size_t i = 0; (object = trawnosz_find_object(unit, length, i)).verdict.number == TRAWNOSZ_OK; i++)
-        print_part(unit + object.from);
+    for (size_t i = 0; i < unit[1]; i++)
+        print_part(trawnosz_read_object(unit, length, i).fields);
 }
 
-/* Sends a panel's unit on to the centre. */
+/* Sends a panel's unit on to the centre, and keeps the packet until the exchange has ended. */
 static void forward(box *b, const uint8_t *unit, size_t length)
 {
-    uint8_t out[TRAWNOSZ_LONGEST_PACKET];
     trawnosz_begun begun = trawnosz_begin_send(b->table);
     b->table = begun.state;
     if (begun.verdict.number) {
-        printf("  not sent: %s\n", names[begun.verdict.number]);
+        fputs("  not sent: ", stdout);
+        print_name(begun.verdict.number);
+        putchar('\n');
         return;
     }
+    sent *kept = &b->kept[begun.exchange_place];
     trawnosz_header header = {begun.serial, 0, b->clock, {2}, {3}, TRAWNOSZ_COMMAND_SEND};
-    memcpy(out + 27, unit, length);
-    if (trawnosz_write_packet(out, sizeof out, header, length).number == TRAWNOSZ_OK)
-        print_bytes("sent", out, 30 + length);
+    memcpy(kept->bytes + UNIT_AT, unit, length);
+    if (trawnosz_write_packet(kept->bytes, sizeof kept->bytes, header, length).number == TRAWNOSZ_OK)
+        kept->length = FRAME_BYTES + length;
+    print_bytes("sent", kept->bytes, kept->length);
 }
 
-static const char *outcome_name(uint8_t outcome)
+/* Answers a request for the states of systems: each that was asked for is in order. */
+static void answer(box *b, const trawnosz_header *asked, const uint8_t *unit, size_t length)
 {
-    return outcome == TRAWNOSZ_OUTCOME_CONFIRMED ? "confirmed" : outcome == TRAWNOSZ_OUTCOME_RESENT ? "to be sent again" : "failed";
+    uint8_t out[TRAWNOSZ_LONGEST_PACKET];
+    uint8_t n = unit[1];
+    size_t size = trawnosz_unit_length(TRAWNOSZ_TYPE_SYSTEM_STATE, n);
+    trawnosz_header header = *asked;
+    memcpy(header.source, asked->destination, sizeof header.source);
+    memcpy(header.destination, asked->source, sizeof header.destination);
+    header.label = b->clock;
+    header.command = TRAWNOSZ_COMMAND_ANSWER;
+    out[UNIT_AT] = TRAWNOSZ_TYPE_SYSTEM_STATE;
+    out[UNIT_AT + 1] = n;
+    for (size_t i = 0; i < n; i++) {
+        trawnosz_fields fields = trawnosz_read_object(unit, length, i).fields;
+        fields.kind = TRAWNOSZ_TYPE_SYSTEM_STATE;
+        fields.low = 1;
+        fields.label = b->clock;
+        trawnosz_write_packet_object(out, sizeof out, size, i, fields, NULL, 0);
+    }
+    if (trawnosz_write_packet(out, sizeof out, header, size).number == TRAWNOSZ_OK)
+        print_bytes("answer", out, FRAME_BYTES + size);
 }
 
-static void settle(box *b, uint16_t serial, trawnosz_replied replied)
+/* What became of an exchange; where it is to be sent again, the packet that was kept goes out as it was. */
+static void on_outcome(const box *b, size_t exchange_place, uint8_t outcome)
 {
-    b->table = replied.state;
-    if (replied.verdict.number)
-        printf("  serial %u: %s\n", serial, names[replied.verdict.number]);
-    else
-        printf("  serial %u: %s\n", serial, outcome_name(replied.outcome));
+    const sent *kept = &b->kept[exchange_place];
+    if (outcome == TRAWNOSZ_OUTCOME_NOTHING)
+        return;
+    printf("  serial %u: ", kept->bytes[2] | kept->bytes[3] << 8);
+    print_name(outcome);
+    putchar('\n');
+    if (outcome == TRAWNOSZ_OUTCOME_RESENT)
+        print_bytes("sent", kept->bytes, kept->length);
 }
 
-/* What a good packet asks for. */
+/* What a good packet asks for that is no reply. */
 static void act(box *b, const uint8_t *packet, size_t length, const trawnosz_header *header)
 {
-    trawnosz_found unit = trawnosz_find_unit(packet, length);
-    const uint8_t *bytes = packet + unit.from;
+    trawnosz_found found = trawnosz_find_unit(packet, length);
+    const uint8_t *unit = packet + found.from;
+    size_t unit_length = found.to - found.from;
     switch (header->command) {
     case TRAWNOSZ_COMMAND_CONTROL:
-        b->clock = trawnosz_read_object(bytes, unit.to - unit.from, 0).fields.label;
+        b->clock = trawnosz_read_object(unit, unit_length, 0).fields.label;
         printf("  clock set to %02u:%02u:%02u\n", b->clock.hour, b->clock.minute, b->clock.second);
         break;
     case TRAWNOSZ_COMMAND_SEND:
-        if (bytes[0] == TRAWNOSZ_TYPE_PART_STATE)
-            print_parts(bytes, unit.to - unit.from);
-        forward(b, bytes, unit.to - unit.from);
+        if (unit[0] == TRAWNOSZ_TYPE_PART_STATE)
+            print_parts(unit, unit_length);
+        forward(b, unit, unit_length);
         break;
-    case TRAWNOSZ_COMMAND_CONFIRM:
-        settle(b, header->serial, trawnosz_reply_confirm(b->table, header->serial));
-        break;
-    case TRAWNOSZ_COMMAND_DENY:
-        settle(b, header->serial, trawnosz_reply_deny(b->table, header->serial));
+    case TRAWNOSZ_COMMAND_REQUEST:
+        if (unit[0] == TRAWNOSZ_TYPE_READ_SYSTEM_STATE)
+            answer(b, header, unit, unit_length);
         break;
     }
+}
+
+/* Where the packet is a reply, good or a refused answer, the exchange that it fits takes its step. */
+static void take(box *b, const uint8_t *packet, size_t length)
+{
+    trawnosz_replied replied = trawnosz_take_packet(b->table, packet, length);
+    b->table = replied.state;
+    if (replied.verdict.number == TRAWNOSZ_REFUSED_STRAY)
+        puts("  no exchange fits");
+    on_outcome(b, replied.exchange_place, replied.outcome);
 }
 
 static void on_packet(box *b, const uint8_t *packet, const trawnosz_served *served)
 {
     uint8_t out[TRAWNOSZ_REPLY_BYTES];
     trawnosz_opened opened = trawnosz_read_packet(packet, served->length);
-    printf("%zu skipped, packet of %zu bytes, command %u: %s\n", served->skipped, served->length, packet[26],
-           names[opened.verdict.number]);
-    trawnosz_answer answer = trawnosz_answer_to(packet, served->length, b->clock, out, sizeof out);
-    if (answer.command)
-        print_bytes(answer.command == TRAWNOSZ_COMMAND_CONFIRM ? "confirm" : "deny", out, sizeof out);
+    printf("%zu skipped, packet of %zu bytes, command %u: ", served->skipped, served->length, packet[26]);
+    print_name(opened.verdict.number);
+    putchar('\n');
+    trawnosz_answer due = trawnosz_answer_to(packet, served->length, b->clock, out, sizeof out);
+    if (due.command)
+        print_bytes(due.command == TRAWNOSZ_COMMAND_CONFIRM ? "confirm" : "deny", out, sizeof out);
+    take(b, packet, served->length);
     if (opened.verdict.number == TRAWNOSZ_OK)
         act(b, packet, served->length, &opened.header);
 }
 
-/* Offers a piece, then what was not yet taken of it, until the receiver asks for more. */
+static void on_event(box *b, const uint8_t *packet, const trawnosz_served *served)
+{
+    if (served->event == TRAWNOSZ_EVENT_MORE)
+        return;
+    if (served->event == TRAWNOSZ_EVENT_PACKET) {
+        on_packet(b, packet, served);
+        return;
+    }
+    printf("%zu skipped, ", served->skipped);
+    print_name(served->event);
+    putchar('\n');
+}
+
+/* Offers a piece, then what was not yet taken of it, until the receiver asks for more or refuses. */
 static void on_piece(box *b, const uint8_t *piece, size_t n)
 {
     uint8_t packet[TRAWNOSZ_LONGEST_PACKET];
@@ -138,13 +195,9 @@ static void on_piece(box *b, const uint8_t *piece, size_t n)
         b->count = served.count;
         piece += served.taken;
         n -= served.taken;
-        if (served.event == TRAWNOSZ_EVENT_PACKET)
-            on_packet(b, packet, &served);
-        else if (served.event == TRAWNOSZ_EVENT_NOISE)
-            printf("%zu skipped, noise\n", served.skipped);
-        else if (served.event != TRAWNOSZ_EVENT_MORE)
-            printf("%zu skipped, start refused: %s\n", served.skipped, names[served.event]);
-    } while (served.event > TRAWNOSZ_REFUSED_ROOM && served.event != TRAWNOSZ_EVENT_MORE);
+        on_event(b, packet, &served);
+    } while (served.event != TRAWNOSZ_EVENT_MORE && served.event != TRAWNOSZ_REFUSED_STATE
+             && served.event != TRAWNOSZ_REFUSED_ROOM);
 }
 
 static void on_tick(box *b)
@@ -153,18 +206,19 @@ static void on_tick(box *b)
     b->table = ticked.state;
     puts("tick");
     for (size_t i = 0; i < TRAWNOSZ_EXCHANGES; i++)
-        if (ticked.reports[i].outcome)
-            printf("  serial %u: %s\n", ticked.reports[i].serial, outcome_name(ticked.reports[i].outcome));
+        on_outcome(b, i, ticked.reports[i].outcome);
 }
 
 int main(void)
 {
     static const size_t sizes[] = {1, 2, 3, 5, 7, 11, 13};
-    static box b = {.clock = {0, 0, 12, 1, 1, 25}};
+    static const trawnosz_label noon = {0, 0, 12, 1, 1, 25};
+    static box b;
     uint8_t piece[13];
     size_t n, total = 0, ticks = 0;
     trawnosz_fresh(b.hold);
     b.table = trawnosz_exchanges_fresh(TIMEOUT, RESENDS).state;
+    b.clock = noon;
     for (size_t i = 0; (n = fread(piece, 1, sizes[i % 7], stdin)) > 0; i++) {
         on_piece(&b, piece, n);
         total += n;

@@ -408,7 +408,7 @@ trawnosz_found trawnosz_find_part(const uint8_t *table, size_t table_length, tra
  * has no name is good, from 0 to 0, and nothing is written. Refuses ROOM (out shorter than the name). */
 trawnosz_found trawnosz_name(uint8_t number, uint8_t *out, size_t out_length);
 
-/* Writes the number of the archive's release in the same way. Refuses ROOM (under 3). */
+/* Writes the number of the archive's release in the same way. Refuses ROOM (out shorter than it). */
 trawnosz_found trawnosz_release(uint8_t *out, size_t out_length);
 
 /* ---- The layout that the archive was built for, each member of each struct: an error in one of these lines is another one. ---- */
