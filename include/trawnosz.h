@@ -1,9 +1,9 @@
 /*
  * Trawnosz: packets of GB/T 26875.3 for alarm transmitters. The calls of libtrawnosz.a, for C99 and later and for C++.
  *
- * The archive is x86-64 code with the System V calling convention. It needs memmove and memset from whoever links it, and
- * nothing else: it allocates nothing and opens nothing. A compiler that lays out the structs of this header in another way,
- * for another machine or under `#pragma pack`, is stopped at the end of it.
+ * The archive is x86-64 code with the System V calling convention. It needs memcpy, memmove and memset from whoever links
+ * it, and nothing else: it allocates nothing and opens nothing. A compiler that lays out the structs in another way,
+ * for another machine or under `#pragma pack`, is stopped at the end of this header.
  *
  * Every call copes with every input and ends. What it will not take it refuses by number: the answer then holds the number
  * and its place, zero for all else and the state as it came, and nothing that was lent is written. A number of 0 is good.
