@@ -1,5 +1,6 @@
 -- Document 01, "Checked examples": A, B and 1 to 10 as one table under one theorem, each answer in numbers under their names. Assumes nothing.
 use Prim.Native.Nat.{ℕ, zero, suc}
+use Prim.Native.String.{String}
 use mathlib.Core.List.{List, [], _∷_, _++_, map}
 use mathlib.Core.Path.{_≡_, refl}
 use lib.ListN.{length, set, take, drop, replicate}
@@ -9,6 +10,9 @@ use Rattle.exchange.specs.Table.{legal, made, found, begun, ticking}
 use Rattle.frame.specs.Frame.{room, unitLength, sumOf, ended, summed}
 use Rattle.kinds.specs.Table.{table, rowsOf, rows, findRow}
 use Rattle.label.specs.Times.{labelBytes, judged, inRanges}
+use Rattle.lines.specs.Decimal.{decimalIn, decimal}
+use Rattle.lines.specs.Events.{line, shortLine, packetLine, eventLine, lastLine}
+use Rattle.naming.specs.Names.{ascii, lettersIn, letters}
 use Rattle.octets.specs.Numbers.{lowFirst}
 use Rattle.octets.specs.Parts.{part}
 use Rattle.octets.specs.Searches.{firstFit, anyFits, every}
@@ -83,13 +87,16 @@ call-2 = call (call-1 .state) (drop (call-1 .taken) tenth)
 abbrev call-3 : Answer
 call-3 = call (call-2 .state) (drop (call-2 .taken) (drop (call-1 .taken) tenth))
 
--- a reading as the listing has it: of each event the count, its number and its packet's length; then how many are held, and the count
+-- what the listing prints of a reading: a line for each event, then the last one
 abbrev lines : List Heard → List ℕ
 lines [] = []
-lines (h ∷ hs) = h .skipped ∷ told (h .event) .number ∷ told (h .event) .length ∷ lines hs
+lines (h ∷ hs) = eventLine (h .skipped) (h .event) (h .packet) ++ lines hs
 
 abbrev listing : Reading → List ℕ
-listing r = lines (r .heard) ++ length (r .held) ∷ r .skipped ∷ []
+listing r = lines (r .heard) ++ lastLine (length (r .held)) (r .skipped)
+
+abbrev printed : String → List ℕ
+printed text = ascii text ++ (10 ∷ [])
 
 -- so many transmitter operations
 abbrev repeated : ℕ → List ℕ → List ℕ
@@ -156,7 +163,7 @@ checked =
     -- "9. A lone 64 is held."
     ∷ (shown (afresh (64 ∷ [])), shows MORE 0 0 1 0 (64 ∷ []))
     -- "10. `00 40` then A lists:" "1 END", "0 PACKET 30 5 3 OK", "held 0 skipped 0"
-    ∷ (listing (reading 1024 0 0 tenth), 1 ∷ END ∷ 0 ∷ 0 ∷ PACKET ∷ 30 ∷ 0 ∷ 0 ∷ [])
+    ∷ (listing (reading 1024 0 0 tenth), printed "1 END" ++ (printed "0 PACKET 30 5 3 OK" ++ printed "held 0 skipped 0"))
     ∷ (take 30 (call-2 .out), A)
     ∷ (fieldsOf A .serial ∷ fieldsOf A .command ∷ ofPacket A, 5 ∷ 3 ∷ of good)
     -- "The END call takes 31 bytes, the next one 1."
@@ -170,4 +177,5 @@ unfolding openedPacket unitPlace partBy judgedPacket judgedContent judgedUnder j
     inRanges firstFit anyFits lowFirst part total called answerBy sound every padTo first foundIn more noise hit onward stands reading readOn
     started judgedFrame summed ended unitLength whenThere room told packetOf made found begun ticking legal lowestFree isOpenAs
     twice allKeep serialFor swept isOpen isZero holds keeps denied ticked
+    eventLine packetLine shortLine lastLine line decimal decimalIn letters lettersIn
 checked-so = refl

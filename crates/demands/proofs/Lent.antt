@@ -7,6 +7,7 @@ use denote.Ref.{RefT, now, ptr}
 use Rattle.fields.specs.declared.Fields.{Fields}
 use Rattle.label.specs.declared.Label.{Label}
 use Rattle.packet.specs.declared.Header.{Header}
+use Rattle.reading.specs.declared.Event.{Event}
 use Rattle.reply.specs.declared.Answer.{Answer}
 use Rattle.verdict.specs.declared.Part.{Part}
 use Rattle.verdict.specs.declared.Verdict.{Verdict}
@@ -24,6 +25,8 @@ use Rattle.reply.proofs.answer_to.Reads as reply-answer-to
 use Rattle.octets.proofs.put.Reads as octets-put
 use Rattle.naming.proofs.write_front.Reads as naming-write-front
 use Rattle.naming.proofs.write_name.Reads as naming-write-name
+use Rattle.lines.proofs.event_line.Reads as lines-event-line
+use Rattle.lines.proofs.last_line.Reads as lines-last-line
 use Rattle.rows.proofs.span.Reads as rows-span
 use Rattle.rows.proofs.wipe.Reads as rows-wipe
 
@@ -84,3 +87,12 @@ naming-write-front-determined κs t out o o' r s a b = (a .0 ∙ sym (b .0), a .
 pub naming-write-name-determined : (κs : _) (n : ℕ) (out o o' : RefT (List ℕ)) (r s : Part)
     → naming-write-name.Post κs (n, (out, tt)) r (n, (o, tt)) → naming-write-name.Post κs (n, (out, tt)) s (n, (o', tt)) → (r ≡ s) × (now o ≡ now o')
 naming-write-name-determined κs n out o o' r s a b = (a .0 ∙ sym (b .0), a .1 ∙ sym (b .1))
+
+pub lines-event-line-determined : (κs : _) (n : ℕ) (e : Event) (p row o o' : RefT (List ℕ)) (r s : ℕ)
+    → lines-event-line.Post κs (n, (e, (p, (row, tt)))) r (n, (e, (p, (o, tt))))
+    → lines-event-line.Post κs (n, (e, (p, (row, tt)))) s (n, (e, (p, (o', tt)))) → (r ≡ s) × (now o ≡ now o')
+lines-event-line-determined κs n e p row o o' r s a b = (a .0 ∙ sym (b .0), a .1 ∙ sym (b .1))
+
+pub lines-last-line-determined : (κs : _) (h n : ℕ) (row o o' : RefT (List ℕ)) (r s : ℕ)
+    → lines-last-line.Post κs (h, (n, (row, tt))) r (h, (n, (o, tt))) → lines-last-line.Post κs (h, (n, (row, tt))) s (h, (n, (o', tt))) → (r ≡ s) × (now o ≡ now o')
+lines-last-line-determined κs h n row o o' r s a b = (a .0 ∙ sym (b .0), a .1 ∙ sym (b .1))
