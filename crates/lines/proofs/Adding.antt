@@ -29,6 +29,14 @@ added-then {o} {p} {q} {x} {y} {at} {mid} {end} a b =
       room = omega (arith, b .room);
     }
 
+-- three pieces, and four
+module _ (o o1 o2 q a b c : List ℕ) (at m1 m2 end : ℕ) (x : Added o at a o1 m1) (y : Added o1 m1 b o2 m2) where
+  pub three-added : Added o2 m2 c q end → Added o at (a ++ b ++ c) q end
+  three-added z = added-then (added-then x y) z
+
+  pub four-added : (o3 d : List ℕ) (m3 : ℕ) → Added o2 m2 c o3 m3 → Added o3 m3 d q end → Added o at (a ++ b ++ c ++ d) q end
+  four-added o3 d m3 z v = added-then (added-then (added-then x y) z) v
+
 -- the same bytes under another name
 pub added-as : {o q x y : List ℕ} {at end : ℕ} → x ≡ y → Added o at x q end → Added o at y q end
 added-as {o} {q} {x} {y} {at} {end} e a = subst (λ (t : List ℕ). Added o at t q end) e a
@@ -59,32 +67,17 @@ module _ (o : List ℕ) (at n : ℕ) (room : at + length (decimal n) ≤ length 
 
 pub ruleset digits = (digit-added, digits-added, room-first, room-tenth, room-last)
 
--- a text of at most k bytes and a byte behind it, where there is room for both
-module _ (k : ℕ) (o t : List ℕ) (at : ℕ) (few : length t ≤ k) (room : at + (k + 1) ≤ length o) where
-  fits : at + length t ≤ length o
-  fits = omega arith
-
-  left : (p : List ℕ) (mid : ℕ) → Added o at t p mid → mid < length p
-  left p mid a = omega (arith, a .behind, ap length (a .so) ∙ length-put o at t)
-
-  short : (p q : List ℕ) (mid b end : ℕ) → Added o at t p mid → Added p mid (b ∷ []) q end → end ≤ at + (k + 1)
-  short p q mid b end a c = omega (arith, a .behind, c .behind)
-
 -- a number that a word holds has at most twenty digits
-module _ (o : List ℕ) (at n : ℕ) (small : Fits w64 n) (room : at + 21 ≤ length o) where
-  twenty : length (decimal n) ≤ 20
-  twenty = decimal-short 19 n (omega arith)
+twenty : (n : ℕ) → Fits w64 n → length (decimal n) ≤ 20
+twenty n h = decimal-short 19 n (omega arith)
 
-  pub number-fits : at + length (decimal n) ≤ length o
-  number-fits = fits 20 o (decimal n) at twenty room
+pub number-fits : (o : List ℕ) (at n : ℕ) → Fits w64 n → at + 20 ≤ length o → at + length (decimal n) ≤ length o
+number-fits o at n h room = omega (arith, twenty n h)
 
-  pub number-left : (p : List ℕ) (mid : ℕ) → Added o at (decimal n) p mid → mid < length p
-  number-left = left 20 o (decimal n) at twenty room
+pub number-short : (o q : List ℕ) (at n end : ℕ) → Fits w64 n → Added o at (decimal n) q end → end ≤ at + 20
+number-short o q at n end h a = omega (arith, twenty n h, a .behind)
 
-  pub number-short : (p q : List ℕ) (mid b end : ℕ) → Added o at (decimal n) p mid → Added p mid (b ∷ []) q end → end ≤ at + 21
-  number-short = short 20 o (decimal n) at twenty room
-
-pub ruleset numbers = (added-then, number-fits, number-left, number-short)
+pub ruleset numbers = (number-fits, number-short)
 
 -- a name is the front of its nine bytes
 module _ (o : List ℕ) (at number : ℕ) (m : Name) (s : List ℕ) (e : m ≡ nameOf number) (long : length (m .bytes) ≡ 9) (f : s ≡ take (m .length) (drop 0 (m .bytes))) where
@@ -95,15 +88,14 @@ module _ (o : List ℕ) (at number : ℕ) (m : Name) (s : List ℕ) (e : m ≡ n
   nine : length s ≤ 9
   nine = omega (arith, ap length f ∙ length-take (m .length) (m .bytes))
 
-  module _ (room : at + 10 ≤ length o) where
-    pub name-fits : at + length s ≤ length o
-    name-fits = fits 9 o s at nine room
+  pub name-fits : at + 10 ≤ length o → at + length s ≤ length o
+  name-fits room = omega (arith, nine)
 
-    pub name-left : (p : List ℕ) (mid : ℕ) → Added o at s p mid → mid < length p
-    name-left = left 9 o s at nine room
+  pub name-left : (p : List ℕ) (mid : ℕ) → at + 10 ≤ length o → Added o at s p mid → mid < length p
+  name-left p mid room a = omega (arith, nine, a .behind, ap length (a .so) ∙ length-put o at s)
 
-    pub name-short : (p q : List ℕ) (mid b end : ℕ) → Added o at s p mid → Added p mid (b ∷ []) q end → end ≤ at + 10
-    name-short = short 9 o s at nine room
+  pub name-short : (p q : List ℕ) (mid b end : ℕ) → Added o at s p mid → Added p mid (b ∷ []) q end → end ≤ at + 10
+  name-short p q mid b end a c = omega (arith, nine, a .behind, c .behind)
 
   pub name-then : (p q : List ℕ) (mid b end : ℕ) → Added o at s p mid → Added p mid (b ∷ []) q end → Added o at (letters number ++ (b ∷ [])) q end
   name-then p q mid b end a c = added-then (added-as spelt a) c

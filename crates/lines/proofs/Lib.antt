@@ -1,3 +1,4 @@
 pub mod Digits
 pub mod Adding
 pub mod Wording
+pub mod Saying

@@ -1,3 +1,4 @@
 pub mod Decimal
 pub mod Added
 pub mod Events
+pub mod Tables

@@ -13,6 +13,9 @@ use reading::Event;
 // Numbers, names and texts, one behind the other in a row.
 mod number;
 
+// What is said of a device table.
+mod said;
+
 const BLANK: u8 = 32;
 
 const NEWLINE: u8 = 10;

@@ -7,15 +7,24 @@ ghost use Rattle.naming.specs.Names.{letters};
 ghost use Rattle.lines.specs.Decimal.{decimal};
 ghost use Rattle.lines.specs.Added.{Added};
 
-// The digits of a tenth of the number first, then its last one.
+// A number, which has at most twenty digits.
 pub fn put_number(row: &mut [u8], at: usize, n: usize) -> usize
+    requires { ⌜ at + 20 ≤ length (now row) ⌝ }
+    ensures { λ r. ⌜ Added (now (row .entry)) at (decimal n) (now (row .exit)) r ⌝ }
+    ensures { λ r. ⌜ r ≤ at + 20 ⌝ }
+{
+    put_digits(row, at, n)
+}
+
+// The digits of a tenth of the number first, then its last one.
+fn put_digits(row: &mut [u8], at: usize, n: usize) -> usize
     requires { ⌜ at + length (decimal n) ≤ length (now row) ⌝ }
     ensures { λ r. ⌜ Added (now (row .entry)) at (decimal n) (now (row .exit)) r ⌝ }
 {
     if n < 10 {
         return put_byte(row, at, last_digit(n));
     }
-    let last = put_number(row, at, n / 10);
+    let last = put_digits(row, at, n / 10);
     put_byte(row, last, last_digit(n))
 }
 
