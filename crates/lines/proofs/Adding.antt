@@ -8,7 +8,7 @@ use lib.Seq.{take-append-seam}
 use mir.Syntax.{w64}
 use mir.Val.{Fits}
 use Rattle.octets.specs.Parts.{putAt}
-use Rattle.octets.proofs.Parts.{put-put, length-put, stores-put}
+use Rattle.octets.proofs.Parts.{put-put, put-same, length-put, stores-put}
 use Rattle.naming.specs.declared.Name.{Name}
 use Rattle.naming.specs.Names.{letters, nameOf}
 use Rattle.lines.specs.Added.{Added}
@@ -28,6 +28,9 @@ added-then {o} {p} {q} {x} {y} {at} {mid} {end} a b =
       behind = omega (arith, a .behind, b .behind);
       room = omega (arith, b .room);
     }
+
+pub none-added : (o : List ℕ) (at k : ℕ) → at + k ≤ length o → Added o at [] o at
+none-added o at k h = record { so = sym (put-same o at [] (omega arith) refl); behind = omega arith; room = omega arith }
 
 -- three pieces, and four
 module _ (o o1 o2 q a b c : List ℕ) (at m1 m2 end : ℕ) (x : Added o at a o1 m1) (y : Added o1 m1 b o2 m2) where
@@ -88,16 +91,14 @@ module _ (o : List ℕ) (at number : ℕ) (m : Name) (s : List ℕ) (e : m ≡ n
   nine : length s ≤ 9
   nine = omega (arith, ap length f ∙ length-take (m .length) (m .bytes))
 
-  pub name-fits : at + 10 ≤ length o → at + length s ≤ length o
+  pub name-fits : at + 9 ≤ length o → at + length s ≤ length o
   name-fits room = omega (arith, nine)
 
-  pub name-left : (p : List ℕ) (mid : ℕ) → at + 10 ≤ length o → Added o at s p mid → mid < length p
-  name-left p mid room a = omega (arith, nine, a .behind, ap length (a .so) ∙ length-put o at s)
+  module _ (q : List ℕ) (end : ℕ) (a : Added o at s q end) where
+    pub name-short : end ≤ at + 9
+    name-short = omega (arith, nine, a .behind)
 
-  pub name-short : (p q : List ℕ) (mid b end : ℕ) → Added o at s p mid → Added p mid (b ∷ []) q end → end ≤ at + 10
-  name-short p q mid b end a c = omega (arith, nine, a .behind, c .behind)
+    pub name-added : Added o at (letters number) q end
+    name-added = added-as spelt a
 
-  pub name-then : (p q : List ℕ) (mid b end : ℕ) → Added o at s p mid → Added p mid (b ∷ []) q end → Added o at (letters number ++ (b ∷ [])) q end
-  name-then p q mid b end a c = added-then (added-as spelt a) c
-
-pub ruleset names = (name-fits, name-left, name-short, name-then)
+pub ruleset names = (name-fits, name-short, name-added)

@@ -58,10 +58,19 @@ pub fn name_and(row: &mut [u8], at: usize, number: u8, end: u8) -> usize
     ensures { λ r. ⌜ Added (now (row .entry)) at (letters number ++ (end ∷ [])) (now (row .exit)) r ⌝ }
     ensures { λ r. ⌜ r ≤ at + 10 ⌝ }
 {
+    let behind = put_name(row, at, number);
+    put_byte(row, behind, end)
+}
+
+// The name of a number, which has at most nine bytes.
+pub fn put_name(row: &mut [u8], at: usize, number: u8) -> usize
+    requires { ⌜ at + 9 ≤ length (now row) ⌝ }
+    ensures { λ r. ⌜ Added (now (row .entry)) at (letters number) (now (row .exit)) r ⌝ }
+    ensures { λ r. ⌜ r ≤ at + 9 ⌝ }
+{
     let name = naming::name_of(number);
     let bytes = name.bytes;
-    let behind = put_text(row, at, rows::span(&bytes, 0, name.length));
-    put_byte(row, behind, end)
+    put_text(row, at, rows::span(&bytes, 0, name.length))
 }
 
 pub fn put_text(row: &mut [u8], at: usize, text: &[u8]) -> usize

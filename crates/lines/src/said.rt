@@ -2,13 +2,20 @@
 ghost use Prim.Native.Nat.{_+_, _≤_, _<_};
 ghost use mathlib.Core.Path.{_≡_};
 ghost use lib.ListN.{length};
-ghost use Rattle.devices.specs.Tables.{ofSystems, ofParts};
+ghost use Rattle.devices.specs.Sections.{endOf, sectionTests};
+ghost use Rattle.devices.specs.Tables.{ofSystems, ofParts, partsFrom};
+ghost use Rattle.verdict.specs.Orders.{inOrder, good, isGood};
 ghost use Rattle.lines.specs.Added.{Added};
-ghost use Rattle.lines.specs.Tables.{led, counted, goodSaid, ofSaid, countCutSaid, manySaid, cutSaid, sectionSaid};
+ghost use Rattle.lines.specs.Tables.{led, counted, goodSaid, ofSaid, countCutSaid, manySaid, cutSaid, sectionSaid, sectionsSaid, ofEntry, placeSaid};
+ghost use Rattle.lines.specs.Tables.{ownNumber, whySaid, newlineSaid, tailSaid, whatSaid, refusedSaid, tableSaid};
 use crate::number::put_byte;
 use crate::number::put_number;
 use crate::number::put_text;
+use crate::number::put_name;
+use devices::PARTS;
+use devices::SYSTEMS;
 use devices::Section;
+use verdict::Verdict;
 
 // A text, and a number behind it.
 fn put_led(row: &mut [u8], at: usize, text: &[u8], n: usize) -> usize
@@ -37,7 +44,7 @@ fn put_counted(row: &mut [u8], at: usize, text: &[u8], n: usize, noun: &[u8]) ->
     put_byte(row, behind, 115)
 }
 
-pub fn put_good(row: &mut [u8], at: usize, systems: usize, parts: usize, bytes: usize) -> usize
+fn put_good(row: &mut [u8], at: usize, systems: usize, parts: usize, bytes: usize) -> usize
     requires { ⌜ at + 90 ≤ length (now row) ⌝ }
     ensures { λ r. ⌜ Added (now (row .entry)) at (goodSaid systems parts bytes) (now (row .exit)) r ⌝ }
     ensures { λ r. ⌜ r ≤ at + 90 ⌝ }
@@ -108,4 +115,157 @@ fn put_section(row: &mut [u8], at: usize, noun: &[u8], z: Section, table: &[u8],
         return put_many(row, at, noun, count, z.limit);
     }
     put_cut(row, at, noun, (table.len() - (from + 2)) / z.entry, count)
+}
+
+// Whether the tests of the systems' section hold.
+fn systems_hold(table: &[u8]) -> bool
+    ensures { λ r. ⌜ r ≡ isGood (inOrder (sectionTests ofSystems (now (table .entry)) 0) good) ⌝ }
+{
+    if table.len() < 2 {
+        return false;
+    }
+    let count = octets::two_at(table, 0) as usize;
+    if SYSTEMS.limit < count {
+        return false;
+    }
+    2 + count * SYSTEMS.entry <= table.len()
+}
+
+// Where the parts begin, by the number of systems that is told.
+fn parts_from(table: &[u8]) -> usize
+    ensures { λ r. ⌜ r ≡ partsFrom ofSystems (now (table .entry)) ⌝ }
+    ensures { λ r. ⌜ r ≤ 131072 ⌝ }
+{
+    2 + (octets::two_at(table, 0) as usize) * SYSTEMS.entry
+}
+
+// Where the table ends, by the numbers that are told.
+fn table_end(table: &[u8]) -> usize
+    ensures { λ r. ⌜ r ≡ endOf ofParts (now (table .entry)) (partsFrom ofSystems (now (table .entry))) ⌝ }
+{
+    let from = parts_from(table);
+    from + 2 + (octets::two_at(table, from) as usize) * PARTS.entry
+}
+
+// The section of which a test fails.
+fn put_sections(row: &mut [u8], at: usize, table: &[u8]) -> usize
+    requires { ⌜ at + 80 ≤ length (now row) ⌝ }
+    ensures { λ r. ⌜ Added (now (row .entry)) at (sectionsSaid ofSystems ofParts (now (table .entry))) (now (row .exit)) r ⌝ }
+    ensures { λ r. ⌜ r ≤ at + 80 ⌝ }
+{
+    if systems_hold(table) {
+        return put_section(row, at, b"part", PARTS, table, parts_from(table));
+    }
+    put_section(row, at, b"system", SYSTEMS, table, 0)
+}
+
+// Whether a refusal is of an entry.
+fn is_of_entry(number: u8) -> bool
+    ensures { λ r. ⌜ r ≡ ofEntry number ⌝ }
+{
+    if number == verdict::ORDER {
+        return true;
+    }
+    number == verdict::ORPHAN
+}
+
+// The place, where it is an entry's.
+fn put_place(row: &mut [u8], at: usize, v: Verdict) -> usize
+    requires { ⌜ at + 21 ≤ length (now row) ⌝ }
+    ensures { λ r. ⌜ Added (now (row .entry)) at (placeSaid v) (now (row .exit)) r ⌝ }
+    ensures { λ r. ⌜ r ≤ at + 21 ⌝ }
+{
+    if is_of_entry(v.number) {
+        return put_led(row, at, b" ", v.place);
+    }
+    at
+}
+
+// An entry by its own number.
+fn put_own(row: &mut [u8], at: usize, systems: usize, place: usize) -> usize
+    requires { ⌜ at + 27 ≤ length (now row) ⌝ }
+    ensures { λ r. ⌜ Added (now (row .entry)) at (ownNumber systems place) (now (row .exit)) r ⌝ }
+    ensures { λ r. ⌜ r ≤ at + 27 ⌝ }
+{
+    if place < systems {
+        return put_led(row, at, b"system ", place);
+    }
+    put_led(row, at, b"part ", place - systems)
+}
+
+fn put_why(row: &mut [u8], at: usize, number: u8) -> usize
+    requires { ⌜ at + 40 ≤ length (now row) ⌝ }
+    ensures { λ r. ⌜ Added (now (row .entry)) at (whySaid number) (now (row .exit)) r ⌝ }
+    ensures { λ r. ⌜ r ≤ at + 40 ⌝ }
+{
+    if number == verdict::ORDER {
+        return put_text(row, at, b" is not above the one before");
+    }
+    put_text(row, at, b" is of a system that is not listed")
+}
+
+fn put_newline(row: &mut [u8], at: usize, rest: usize, last: u8) -> usize
+    requires { ⌜ at + 22 ≤ length (now row) ⌝ }
+    ensures { λ r. ⌜ Added (now (row .entry)) at (newlineSaid rest last) (now (row .exit)) r ⌝ }
+    ensures { λ r. ⌜ r ≤ at + 22 ⌝ }
+{
+    if last != 10 {
+        return at;
+    }
+    if rest == 1 {
+        return put_text(row, at, b", a newline");
+    }
+    put_text(row, at, b", a newline at the end")
+}
+
+fn put_tail(row: &mut [u8], at: usize, rest: usize, last: u8) -> usize
+    requires { ⌜ at + 80 ≤ length (now row) ⌝ }
+    ensures { λ r. ⌜ Added (now (row .entry)) at (tailSaid rest last) (now (row .exit)) r ⌝ }
+    ensures { λ r. ⌜ r ≤ at + 80 ⌝ }
+{
+    let mut behind = put_counted(row, at, b"", rest, b"byte");
+    behind = put_text(row, behind, b" after the table");
+    put_newline(row, behind, rest, last)
+}
+
+// What is refused, and where.
+fn put_what(row: &mut [u8], at: usize, table: &[u8], v: Verdict) -> usize
+    requires { ⌜ at + 80 ≤ length (now row) ⌝ }
+    ensures { λ r. ⌜ Added (now (row .entry)) at (whatSaid ofSystems ofParts (now (table .entry)) v) (now (row .exit)) r ⌝ }
+    ensures { λ r. ⌜ r ≤ at + 80 ⌝ }
+{
+    if is_of_entry(v.number) {
+        let behind = put_own(row, at, octets::two_at(table, 0) as usize, v.place);
+        return put_why(row, behind, v.number);
+    }
+    if v.number == verdict::TAIL {
+        let rest = rows::less(table.len(), table_end(table));
+        return put_tail(row, at, rest, octets::byte_at(table, rows::less(table.len(), 1)));
+    }
+    put_sections(row, at, table)
+}
+
+fn put_refused(row: &mut [u8], at: usize, table: &[u8], v: Verdict) -> usize
+    requires { ⌜ at + 103 ≤ length (now row) ⌝ }
+    ensures { λ r. ⌜ Added (now (row .entry)) at (refusedSaid ofSystems ofParts (now (table .entry)) v) (now (row .exit)) r ⌝ }
+    ensures { λ r. ⌜ r ≤ at + 103 ⌝ }
+{
+    let mut behind = put_place(row, at, v);
+    behind = put_text(row, behind, b": ");
+    put_what(row, behind, table, v)
+}
+
+// What is said of a table.
+pub fn put_said(row: &mut [u8], at: usize, table: &[u8]) -> usize
+    requires { ⌜ at + 112 ≤ length (now row) ⌝ }
+    ensures { λ r. ⌜ Added (now (row .entry)) at (tableSaid ofSystems ofParts (now (table .entry))) (now (row .exit)) r ⌝ }
+    ensures { λ r. ⌜ r ≤ at + 112 ⌝ }
+{
+    let judged = devices::judge(table);
+    let v = judged.verdict;
+    let behind = put_name(row, at, v.number);
+    if v.is_good() {
+        return put_good(row, behind, judged.systems, judged.parts, table.len());
+    }
+    put_refused(row, behind, table, v)
 }

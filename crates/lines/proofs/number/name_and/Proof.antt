@@ -1,7 +1,7 @@
--- `lines::number::name_and` meets its contract: a name has at most nine bytes. Assumes nothing.
+-- `lines::number::name_and` meets its contract: a name, then a byte. Assumes nothing.
+use native.Mathlib.Omega.{arith}
 use borrow.Author.Needs.{needs}
-use Rattle.octets.proofs.Asked.{unasked}
-use Rattle.lines.proofs.Adding.{names}
+use Rattle.lines.proofs.Adding.{added-then}
 use Rattle.lines.proofs.number.name_and.Statement.{statement}
 use Rattle.lines.proofs.number.name_and.Tie as tie
 
@@ -9,10 +9,7 @@ pub name-and-spec : {M : Type 1} → statement M
 name-and-spec =
     tie.close
     (tie.spec
-    unasked
+    (λ c κs. search needs)
+    (λ c κs. search needs)
     (λ c. search needs)
-    unasked
-    (λ c κs. search (names, needs))
-    (λ c κs. search (names, needs))
-    (λ c. search needs)
-    (λ c. search (names, needs)))
+    (λ c. (search added-then, omega arith)))
