@@ -6,7 +6,7 @@ use mathlib.Core.List.{List, [], _∷_, _++_, append-nil}
 use mathlib.Core.Path.{_≡_, refl, sym, ap, _∙_}
 use borrow.Author.Tests.{le-leb, lt-leb, lt-ltb, le-ltb, eq-eqb, ne-eqb}
 use lib.Dec.{leb, eqb}
-use lib.ListN.{length, getD, take, drop}
+use lib.ListN.{length, getD, take, drop, length-take}
 use Rattle.devices.specs.declared.Section.{Section}
 use Rattle.devices.specs.Sections.{countAt, entryAt, endOf, sectionTests}
 use Rattle.devices.specs.declared.Judgement.{Judgement}
@@ -19,6 +19,7 @@ use Rattle.verdict.specs.Orders.{inOrder, good, isGood}
 use Rattle.lines.specs.Added.{Added}
 use Rattle.lines.specs.Tables.{led, counted, countCutSaid, manySaid, cutSaid, sectionSaid, sectionsSaid, ofEntry, placeSaid}
 use Rattle.lines.specs.Tables.{goodSaid, ownNumber, whySaid, tailSaid, whatSaid, refusedSaid, tableSaid}
+use Rattle.lines.specs.Tables.{fileName, fileLine, tableLine, unjudgedSaid, unjudgedLine}
 use Rattle.lines.proofs.Adding.{added-then, added-as}
 
 -- one of a thing, and any other number
@@ -197,3 +198,31 @@ module _ (o p q t : List ℕ) (at mid end : ℕ) (j : Judgement) (g : Bool) (jud
   said-refused e a = added-then begins (added-as (ap (refusedSaid ofSystems ofParts t) verdict-is ∙ sym (simp (good-is ∙ e))) a)
 
 pub ruleset says = (said-good, said-refused)
+
+-- the front of a name, which is all of it where it is a path's
+module _ (o name s : List ℕ) (e : s ≡ take 4095 (drop 0 name)) where
+  front-few : length s ≤ 4095
+  front-few = omega (arith, ap length e ∙ length-take 4095 name)
+
+  pub front-fits : 4095 ≤ length o → 0 + length s ≤ length o
+  front-fits h = omega (arith, front-few)
+
+  module _ (q : List ℕ) (end : ℕ) (a : Added o 0 s q end) where
+    pub front-short : end ≤ 4095
+    front-short = omega (arith, front-few, a .behind)
+
+    pub front-added : Added o 0 (take 4095 name) q end
+    front-added = added-as e a
+
+pub ruleset fronts = (front-fits, front-short, front-added)
+
+-- a line of three pieces
+module _ (o p1 p2 q name : List ℕ) (m1 m2 end : ℕ) (a : Added o 0 (fileName name) p1 m1) where
+  pub table-made : (t : List ℕ) → Added p1 m1 (tableSaid ofSystems ofParts t) p2 m2 → Added p2 m2 (10 ∷ []) q end
+      → Added o 0 (tableLine ofSystems ofParts name t) q end
+  unfolding tableLine fileLine
+  table-made t b c = added-then (added-then a b) c
+
+  pub unjudged-made : (longer : Bool) → Added p1 m1 (unjudgedSaid longer) p2 m2 → Added p2 m2 (10 ∷ []) q end → Added o 0 (unjudgedLine name longer) q end
+  unfolding unjudgedLine fileLine
+  unjudged-made longer b c = added-then (added-then a b) c

@@ -58,6 +58,8 @@ module _ (o q t l : List ℕ) (r : ℕ) (a : Added o 0 t q r) (e : t ≡ l) wher
   pub made-row : q ≡ putAt o 0 l
   made-row = a .so ∙ ap (putAt o 0) e
 
+pub ruleset made = (made-long, made-row)
+
 -- where there is no line the row is as it was
 module _ (o l : List ℕ) (e : l ≡ []) where
   pub none-long : 0 ≡ length l

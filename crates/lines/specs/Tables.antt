@@ -96,12 +96,18 @@ tableSaid a b t =
     ++ cond (isGood (judged a b t)) (goodSaid (countAt t 0) (countAt t (partsFrom a t)) (length t)) (refusedSaid a b t (judged a b t))
 
 -- a line of the program: a file's name, which has at most 4,095 bytes, and what is said of it
+unfoldable pub fileName : List ℕ → List ℕ
+fileName name = take 4095 name ++ ascii ": "
+
 unfoldable pub fileLine : List ℕ → List ℕ → List ℕ
-fileLine name said = take 4095 name ++ ascii ": " ++ said ++ (10 ∷ [])
+fileLine name said = fileName name ++ said ++ (10 ∷ [])
 
 unfoldable pub tableLine : Section → Section → List ℕ → List ℕ → List ℕ
 tableLine a b name t = fileLine name (tableSaid a b t)
 
 -- a file that could not be judged
+unfoldable pub unjudgedSaid : Bool → List ℕ
+unjudgedSaid longer = cond longer (ascii "longer than 65536 bytes") (ascii "cannot be read")
+
 unfoldable pub unjudgedLine : List ℕ → Bool → List ℕ
-unjudgedLine name longer = fileLine name (cond longer (ascii "longer than 65536 bytes") (ascii "cannot be read"))
+unjudgedLine name longer = fileLine name (unjudgedSaid longer)

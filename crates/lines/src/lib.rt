@@ -2,13 +2,19 @@
 ghost use mathlib.Core.Path.{_≡_};
 ghost use Prim.Native.Nat.{_+_, _≤_};
 ghost use lib.ListN.{length};
+ghost use Rattle.devices.specs.Tables.{ofSystems, ofParts};
 ghost use Rattle.octets.specs.Parts.{putAt};
 ghost use Rattle.lines.specs.Added.{Added};
 ghost use Rattle.lines.specs.Events.{line, packetWords, shortLine, packetLine, eventLine, lastLine};
+ghost use Rattle.lines.specs.Tables.{tableLine, unjudgedLine};
 use number::name_and;
 use number::number_and;
+use number::put_byte;
 use number::put_text;
 use reading::Event;
+use said::put_file_name;
+use said::put_said;
+use said::put_unjudged;
 
 // Numbers, names and texts, one behind the other in a row.
 mod number;
@@ -94,4 +100,36 @@ fn last_words(row: &mut [u8; 128], held: usize, skipped: usize) -> usize
     at = number_and(row, at, held, BLANK);
     at = put_text(row, at, b"skipped ");
     number_and(row, at, skipped, NEWLINE)
+}
+
+// The line of a device table file, in the front of the row, and its length.
+pub fn table_line(name: &[u8], table: &[u8], row: &mut [u8; 4224]) -> usize
+    ensures { λ r. ⌜ r ≡ length (tableLine ofSystems ofParts (now (name .entry)) (now (table .entry))) ⌝ }
+    ensures { λ r. ⌜ now (row .exit) ≡ putAt (now (row .entry)) 0 (tableLine ofSystems ofParts (now (name .entry)) (now (table .entry))) ⌝ }
+{
+    table_words(row, name, table)
+}
+
+fn table_words(row: &mut [u8; 4224], name: &[u8], table: &[u8]) -> usize
+    ensures { λ r. ⌜ Added (now (row .entry)) 0 (tableLine ofSystems ofParts (now (name .entry)) (now (table .entry))) (now (row .exit)) r ⌝ }
+{
+    let mut at = put_file_name(row, name);
+    at = put_said(row, at, table);
+    put_byte(row, at, NEWLINE)
+}
+
+// The line of a file that could not be judged, since it is longer than a table may be or else cannot be read.
+pub fn unjudged_line(name: &[u8], longer: bool, row: &mut [u8; 4224]) -> usize
+    ensures { λ r. ⌜ r ≡ length (unjudgedLine (now (name .entry)) longer) ⌝ }
+    ensures { λ r. ⌜ now (row .exit) ≡ putAt (now (row .entry)) 0 (unjudgedLine (now (name .entry)) longer) ⌝ }
+{
+    unjudged_words(row, name, longer)
+}
+
+fn unjudged_words(row: &mut [u8; 4224], name: &[u8], longer: bool) -> usize
+    ensures { λ r. ⌜ Added (now (row .entry)) 0 (unjudgedLine (now (name .entry)) longer) (now (row .exit)) r ⌝ }
+{
+    let mut at = put_file_name(row, name);
+    at = put_unjudged(row, at, longer);
+    put_byte(row, at, NEWLINE)
 }

@@ -1,17 +1,17 @@
 // What is said of a device table, put into a lent row piece by piece.
 ghost use Prim.Native.Nat.{_+_, _≤_, _<_};
 ghost use mathlib.Core.Path.{_≡_};
-ghost use lib.ListN.{length};
+ghost use lib.ListN.{length, take};
 ghost use Rattle.devices.specs.Sections.{endOf, sectionTests};
 ghost use Rattle.devices.specs.Tables.{ofSystems, ofParts, partsFrom};
 ghost use Rattle.verdict.specs.Orders.{inOrder, good, isGood};
 ghost use Rattle.lines.specs.Added.{Added};
 ghost use Rattle.lines.specs.Tables.{led, counted, goodSaid, ofSaid, countCutSaid, manySaid, cutSaid, sectionSaid, sectionsSaid, ofEntry, placeSaid};
-ghost use Rattle.lines.specs.Tables.{ownNumber, whySaid, newlineSaid, tailSaid, whatSaid, refusedSaid, tableSaid};
+ghost use Rattle.lines.specs.Tables.{ownNumber, whySaid, newlineSaid, tailSaid, whatSaid, refusedSaid, tableSaid, fileName, unjudgedSaid};
 use crate::number::put_byte;
+use crate::number::put_name;
 use crate::number::put_number;
 use crate::number::put_text;
-use crate::number::put_name;
 use devices::PARTS;
 use devices::SYSTEMS;
 use devices::Section;
@@ -99,7 +99,14 @@ fn put_cut(row: &mut [u8], at: usize, noun: &[u8], whole: usize, n: usize) -> us
 }
 
 // What the first test that fails of a section is about.
-fn put_section(row: &mut [u8], at: usize, noun: &[u8], z: Section, table: &[u8], from: usize) -> usize
+fn put_section(
+    row: &mut [u8],
+    at: usize,
+    noun: &[u8],
+    z: Section,
+    table: &[u8],
+    from: usize,
+) -> usize
     requires { ⌜ length (now noun) ≤ 6 ⌝ }
     requires { ⌜ at + 80 ≤ length (now row) ⌝ }
     requires { ⌜ 0 < z .entry ⌝ }
@@ -240,7 +247,12 @@ fn put_what(row: &mut [u8], at: usize, table: &[u8], v: Verdict) -> usize
     }
     if v.number == verdict::TAIL {
         let rest = rows::less(table.len(), table_end(table));
-        return put_tail(row, at, rest, octets::byte_at(table, rows::less(table.len(), 1)));
+        return put_tail(
+            row,
+            at,
+            rest,
+            octets::byte_at(table, rows::less(table.len(), 1)),
+        );
     }
     put_sections(row, at, table)
 }
@@ -268,4 +280,33 @@ pub fn put_said(row: &mut [u8], at: usize, table: &[u8]) -> usize
         return put_good(row, behind, judged.systems, judged.parts, table.len());
     }
     put_refused(row, behind, table, v)
+}
+
+// A file's name, of at most 4,095 bytes, and what parts it from the rest of the line.
+pub fn put_file_name(row: &mut [u8], name: &[u8]) -> usize
+    requires { ⌜ 4097 ≤ length (now row) ⌝ }
+    ensures { λ r. ⌜ Added (now (row .entry)) 0 (fileName (now (name .entry))) (now (row .exit)) r ⌝ }
+    ensures { λ r. ⌜ r ≤ 4097 ⌝ }
+{
+    let behind = put_front(row, name);
+    put_text(row, behind, b": ")
+}
+
+fn put_front(row: &mut [u8], name: &[u8]) -> usize
+    requires { ⌜ 4095 ≤ length (now row) ⌝ }
+    ensures { λ r. ⌜ Added (now (row .entry)) 0 (take 4095 (now (name .entry))) (now (row .exit)) r ⌝ }
+    ensures { λ r. ⌜ r ≤ 4095 ⌝ }
+{
+    put_text(row, 0, rows::span(name, 0, 4095))
+}
+
+pub fn put_unjudged(row: &mut [u8], at: usize, longer: bool) -> usize
+    requires { ⌜ at + 23 ≤ length (now row) ⌝ }
+    ensures { λ r. ⌜ Added (now (row .entry)) at (unjudgedSaid longer) (now (row .exit)) r ⌝ }
+    ensures { λ r. ⌜ r ≤ at + 23 ⌝ }
+{
+    if longer {
+        return put_text(row, at, b"longer than 65536 bytes");
+    }
+    put_text(row, at, b"cannot be read")
 }

@@ -1,8 +1,19 @@
-// Judges the device tables that its arguments name, one line for each, or the one on its standard input where none is named.
+// Judges the device tables that its arguments name, one line for each, or the one on its standard input where none is named; last it says on
+// standard error whether all are good, any is refused, or any could not be judged.
 ghost use mathlib.Core.Path.{_≡_};
 ghost use lib.ListN.{length};
+use libc::STDERR_FILENO;
 use libc::STDIN_FILENO;
 use libc::STDOUT_FILENO;
+
+// What came of the files so far, worst last; of these the last one has been told already.
+const GOOD: u8 = 0;
+
+const REFUSED: u8 = 1;
+
+const UNJUDGED: u8 = 2;
+
+const UNWRITTEN: u8 = 3;
 
 // What was read: that many bytes to the end, or why there is no table.
 enum Input {
@@ -35,66 +46,97 @@ fn read_all(fd: i32, buf: &mut [u8]) -> Input {
     Input::Longer
 }
 
-fn print_number(n: usize) {
-    io::write_all(STDOUT_FILENO, b" ");
-    io::print_decimal(STDOUT_FILENO, n as u64);
+// Room for the longest line.
+fn line_room() -> [u8; 4224]
+    ensures { λ r. ⌜ 4224 ≡ length r ⌝ }
+{
+    [0; 4224]
 }
 
-// OK with systems, parts and bytes, or the refusal's name and place.
-fn print_judgement(table: &[u8]) {
-    let judged = devices::judge(table);
-    let v = judged.verdict;
-    let name = naming::name_of(v.number);
-    let letters = name.bytes;
-    io::write_all(STDOUT_FILENO, octets::part_of(&letters, 0, name.length));
-    if v.is_good() {
-        print_number(judged.systems);
-        print_number(judged.parts);
-        print_number(table.len());
-    } else {
-        print_number(v.place);
+// Writes a line by one call, and answers what it is told to where that could be done; where it could not, it says why.
+fn print_line(row: &[u8; 4224], length: usize, outcome: u8) -> u8 {
+    if io::write_all(STDOUT_FILENO, octets::part_of(row, 0, length)) {
+        return outcome;
     }
-    io::write_all(STDOUT_FILENO, b"\n");
+    os::fail(b"tables: standard output");
+    UNWRITTEN
 }
 
-fn judge_input(fd: i32) {
+fn tell_judged(name: &[u8], table: &[u8]) -> u8 {
+    let mut row = line_room();
+    let length = lines::table_line(name, table, &mut row);
+    let judged = devices::judge(table);
+    if judged.verdict.is_good() {
+        return print_line(&row, length, GOOD);
+    }
+    print_line(&row, length, REFUSED)
+}
+
+fn tell_unjudged(name: &[u8], longer: bool) -> u8 {
+    let mut row = line_room();
+    let length = lines::unjudged_line(name, longer, &mut row);
+    print_line(&row, length, UNJUDGED)
+}
+
+fn judge_input(fd: i32, name: &[u8]) -> u8 {
     let mut buf = room();
     match read_all(fd, &mut buf) {
-        Input::Ended(n) => print_judgement(octets::part_of(&buf, 0, n)),
-        Input::Longer => {
-            io::write_all(STDOUT_FILENO, b"longer than 65536 bytes\n");
-        }
-        Input::Failed => {
-            io::write_all(STDOUT_FILENO, b"cannot be read\n");
-        }
+        Input::Ended(n) => tell_judged(name, octets::part_of(&buf, 0, n)),
+        Input::Longer => tell_unjudged(name, true),
+        Input::Failed => tell_unjudged(name, false),
     }
 }
 
-fn judge_file(i: usize) {
+// The file that an argument names; of one that is longer than a path may be the front is told.
+fn judge_file(i: usize) -> u8 {
     let mut path = io::buffer();
     let n = os::arg(i, &mut path);
     if os::errno() != 0 {
-        io::write_all(STDOUT_FILENO, b"cannot be read\n");
-        return;
+        return tell_unjudged(&path, false);
     }
-    let fd = os::open_read(&path[..n]);
+    let name = &path[..n];
+    let fd = os::open_read(name);
     if fd < 0 {
-        io::write_all(STDOUT_FILENO, b"cannot be read\n");
-        return;
+        return tell_unjudged(name, false);
     }
-    judge_input(fd);
+    let outcome = judge_input(fd, name);
     libc::close(fd);
+    outcome
+}
+
+// The files that the arguments name, to the first line that cannot be written; the worst of what came of them.
+fn judge_files(count: usize) -> u8 {
+    let mut worst = GOOD;
+    let mut i: usize = 1;
+    while i < count {
+        let outcome = judge_file(i);
+        if outcome == UNWRITTEN {
+            return UNWRITTEN;
+        }
+        if worst < outcome {
+            worst = outcome;
+        }
+        i = i + 1;
+    }
+    worst
+}
+
+// The result in one word, which a script turns into an exit status.
+fn conclude(outcome: u8) {
+    if outcome == GOOD {
+        io::write_all(STDERR_FILENO, b"good\n");
+    } else if outcome == REFUSED {
+        io::write_all(STDERR_FILENO, b"refused\n");
+    } else if outcome == UNJUDGED {
+        io::write_all(STDERR_FILENO, b"unjudged\n");
+    }
 }
 
 fn main() {
     let count = os::arg_count();
     if count < 2 {
-        judge_input(STDIN_FILENO);
+        conclude(judge_input(STDIN_FILENO, b"-"));
         return;
     }
-    let mut i: usize = 1;
-    while i < count {
-        judge_file(i);
-        i = i + 1;
-    }
+    conclude(judge_files(count));
 }

@@ -1,7 +1,7 @@
 -- `lines::last_line` meets its contract: it is what was added. Assumes nothing.
 use borrow.Author.Needs.{needs}
 use Rattle.octets.proofs.Asked.{unasked}
-use Rattle.lines.proofs.Wording.{events}
+use Rattle.lines.proofs.Wording.{made}
 use Rattle.lines.proofs.last_line.Statement.{statement}
 use Rattle.lines.proofs.last_line.Tie as tie
 
@@ -10,4 +10,4 @@ last-line-spec =
     tie.close
     (tie.spec
     unasked
-    (λ c. search (events, needs)))
+    (λ c. search (made, needs)))

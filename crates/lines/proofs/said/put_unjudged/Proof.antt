@@ -1,0 +1,21 @@
+-- `lines::said::put_unjudged` meets its contract: one of two texts. Assumes nothing.
+use native.Mathlib.Omega.{arith}
+use borrow.Author.Needs.{needs}
+use Rattle.lines.proofs.Saying.{choices}
+use Rattle.lines.specs.Tables.{unjudgedSaid}
+use Rattle.lines.proofs.said.put_unjudged.Statement.{statement}
+use Rattle.lines.proofs.said.put_unjudged.Tie as tie
+
+pub put-unjudged-spec : {M : Type 1} → statement M
+unfolding unjudgedSaid
+put-unjudged-spec =
+    tie.close
+    (tie.spec
+    (λ c. search needs)
+    (λ c κs. search needs)
+    (λ c. search needs)
+    (λ c. (search choices, omega arith))  -- longer
+    (λ c. search needs)
+    (λ c κs. search needs)
+    (λ c. search needs)
+    (λ c. (search choices, omega arith)))
