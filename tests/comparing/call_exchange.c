@@ -58,6 +58,23 @@ struct ind_turn both_begin(struct trial *t, struct ind_book *book, enum ind_mode
     return mine;
 }
 
+/* What a reply is answered by. */
+static void tell_turn(struct answer *answer, const struct ind_turn *turn, const struct ind_book *book)
+{
+    tell_verdict(answer, turn->verdict);
+    tell(answer, "fitting place", turn->place);
+    tell(answer, "outcome", outcome_number(turn->outcome));
+    tell_book(answer, book);
+}
+
+static void tell_their_reply(struct answer *answer, const trawnosz_replied *replied)
+{
+    tell_their_verdict(answer, replied->verdict);
+    tell(answer, "fitting place", replied->exchange_place);
+    tell(answer, "outcome", replied->outcome);
+    tell_their_table(answer, &replied->state);
+}
+
 /* The four kinds of reply, in the order of `enum ind_told`. */
 static const struct {
     const char *name;
@@ -76,16 +93,25 @@ struct ind_turn both_reply(struct trial *t, struct ind_book *book, enum ind_told
     name_table(t, replies[told].name, book);
     with_number("serial", serial);
     struct ind_turn mine = ind_hear(book, told, serial);
-    tell_verdict(&a, mine.verdict);
-    tell(&a, "fitting place", mine.place);
-    tell(&a, "outcome", outcome_number(mine.outcome));
-    tell_book(&a, book);
+    tell_turn(&a, &mine, book);
     trawnosz_replied theirs = replies[told].call(table, serial);
-    tell_their_verdict(&b, theirs.verdict);
-    tell(&b, "fitting place", theirs.exchange_place);
-    tell(&b, "outcome", theirs.outcome);
-    tell_their_table(&b, &theirs.state);
+    tell_their_reply(&b, &theirs);
     agree(t, &a, &b);
+    return mine;
+}
+
+struct ind_turn both_take_packet(struct trial *t, struct ind_book *book, const uint8_t *packet, size_t size)
+{
+    struct answer a = {0}, b = {0};
+    trawnosz_exchanges table = their_table(book);
+    name_table(t, "trawnosz_take_packet", book);
+    with_bytes("packet", packet, size);
+    struct ind_turn mine = ind_take(book, packet, size);
+    tell_turn(&a, &mine, book);
+    trawnosz_replied theirs = trawnosz_take_packet(table, lend(t, LENT_INPUT, packet, size), size);
+    tell_their_reply(&b, &theirs);
+    agree(t, &a, &b);
+    check_lent(t, LENT_INPUT, "packet", packet);
     return mine;
 }
 

@@ -103,7 +103,12 @@ struct ind_received both_receive(struct trial *t, struct ind_hold *hold, const u
 struct ind_verdict both_exchanges_fresh(struct trial *t, struct ind_book *book, uint8_t timeout, uint8_t limit);
 struct ind_turn both_begin(struct trial *t, struct ind_book *book, enum ind_mode mode);
 struct ind_turn both_reply(struct trial *t, struct ind_book *book, enum ind_told told, uint16_t serial);
+struct ind_turn both_take_packet(struct trial *t, struct ind_book *book, const uint8_t *packet, size_t size);
 struct ind_tick both_tick(struct trial *t, struct ind_book *book);
+
+struct ind_span both_name(struct trial *t, uint8_t number, uint8_t *out, size_t room);
+struct ind_span both_release(struct trial *t, uint8_t *out, size_t room);
+size_t both_unit_length(struct trial *t, uint8_t type, size_t n);
 
 struct ind_devices both_judge_table(struct trial *t, const uint8_t *table, size_t size);
 struct ind_span both_find_place(struct trial *t, const uint8_t *table, size_t size, const uint8_t key[7]);
@@ -174,6 +179,8 @@ void try_round_trip(struct trial *t);
 void try_replies(struct trial *t);
 void try_exchange_states(struct trial *t);
 void try_exchange_sequence(struct trial *t);
+void try_takes(struct trial *t);
+void try_names(struct trial *t);
 void try_good_devices(struct trial *t);
 void try_spoiled_devices(struct trial *t);
 void try_empties(struct trial *t);

@@ -5,6 +5,7 @@
 
 static void read_nothing(struct trial *t)
 {
+    struct ind_book book;
     uint8_t label[6], out[30];
     const uint8_t key[7] = {1, 2, 3, 4, 5, 6, 7};
     make_label(t, label);
@@ -22,6 +23,8 @@ static void read_nothing(struct trial *t)
     both_description_place(t, NULL, 0, below(t, 3));
     both_judge_table(t, NULL, 0);
     both_find_place(t, NULL, 0, key);
+    both_exchanges_fresh(t, &book, 1, 0);
+    both_take_packet(t, &book, NULL, 0);
 }
 
 /* Nothing to write to, or nothing to write. */
@@ -44,6 +47,8 @@ static void write_nothing(struct trial *t)
     make_label(t, label);
     size_t size = make_any_packet(t, packet);
     both_answer_to(t, packet, size, label, NULL, 0);
+    both_name(t, any_byte(t), NULL, 0);
+    both_release(t, NULL, 0);
 }
 
 /* An empty piece on any hold, and no buffer. */

@@ -1,4 +1,5 @@
-/* Exchange tables: sound and unsound ones, nearly full and full ones, and long sequences of calls on one table. */
+/* Exchange tables: sound and unsound ones, nearly full and full ones, packets taken by them, and long sequences of calls on
+ * one table. */
 #include "comparing.h"
 
 #include <string.h>
@@ -97,6 +98,41 @@ void try_exchange_states(struct trial *t)
     for (unsigned told = 0; told < 4; told++) {
         both_reply(t, (copy = book, &copy), told, choose_serial(t, &book));
         both_reply(t, (copy = book, &copy), told, choose_serial(t, &book));
+    }
+}
+
+/* A packet under a serial of the table: an answer as often as all others together, good, refused at each place of the order
+ * behind the sum, or with its frame spoiled. */
+static size_t make_reply(struct trial *t, const struct ind_book *book, uint8_t *packet)
+{
+    size_t size = make_any_packet(t, packet);
+    uint16_t serial = choose_serial(t, book);
+    packet[2] = (uint8_t)serial;
+    packet[3] = (uint8_t)(serial >> 8);
+    if (packet[26] == 2 && chance(t, 80))
+        packet[26] = 5;
+    seal(packet, size - 30);
+    if (chance(t, 50))
+        spoil_packet(t, packet, &size);
+    return size;
+}
+
+/* Packets taken by one table, each by the table as it was, and a few by the table as the one before left it. */
+void try_takes(struct trial *t)
+{
+    struct ind_book book, copy;
+    uint8_t packet[MADE_MOST];
+    make_book(t, &book);
+    if (chance(t, 30))
+        spoil_book(t, &book);
+    both_take_packet(t, (copy = book, &copy), packet, below(t, 30));
+    for (int i = 0; i < 8; i++) {
+        size_t size = make_reply(t, &book, packet);
+        both_take_packet(t, (copy = book, &copy), packet, size);
+    }
+    for (int i = 0; i < 8; i++) {
+        size_t size = make_reply(t, &book, packet);
+        both_take_packet(t, &book, packet, size);
     }
 }
 

@@ -137,6 +137,24 @@ struct ind_turn ind_hear(struct ind_book *book, enum ind_told told, uint16_t ser
     return turn;
 }
 
+/* A packet given as its bytes: a good confirm, answer or deny is that reply under its serial, "a bad answer (command 5,
+ * refused at VERSION or later)" one under the serial that its bytes have; all else is told as the judge judges it. */
+struct ind_turn ind_take(struct ind_book *book, const uint8_t *packet, size_t size)
+{
+    struct ind_turn turn = {ind_judge_packet(packet, size), 0, 0, IND_NOTHING};
+    bool good = turn.verdict.refusal == IND_GOOD;
+    if (ind_before_version(turn.verdict.refusal))
+        return turn;
+    uint16_t serial = (uint16_t)ind_low_first(packet + 2);
+    if (packet[26] == IND_COMMAND_ANSWER)
+        return ind_hear(book, good ? IND_ANSWER_CAME : IND_BAD_ANSWER_CAME, serial);
+    if (good && packet[26] == IND_COMMAND_CONFIRM)
+        return ind_hear(book, IND_CONFIRM_CAME, serial);
+    if (good && packet[26] == IND_COMMAND_DENY)
+        return ind_hear(book, IND_DENY_CAME, serial);
+    return turn;
+}
+
 /* "A tick adds 1 to each age; reaching T acts as deny." */
 static enum ind_outcome grow_older(struct ind_exchange *one, const struct ind_book *book)
 {

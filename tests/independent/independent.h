@@ -19,6 +19,7 @@ struct ind_verdict ind_good(void);
 struct ind_verdict ind_refuse(enum ind_refusal refusal);
 struct ind_verdict ind_refuse_at(enum ind_refusal refusal, size_t place);
 const char *ind_refusal_name(enum ind_refusal refusal);
+bool ind_before_version(enum ind_refusal refusal);
 
 /* A part of the caller's bytes, by the place of its first byte and its length. */
 struct ind_span {
@@ -29,6 +30,10 @@ struct ind_span {
 
 struct ind_span ind_no_span(struct ind_verdict verdict);
 struct ind_span ind_span_at(size_t start, size_t length);
+
+/* The name of a number that a call tells, of no letters where it has none; and a text put to the front of a row. */
+const char *ind_name(uint8_t number);
+struct ind_span ind_put_front(uint8_t *out, size_t room, const char *text);
 
 /* Six bytes of a time label, in the order in which they stand in a packet. */
 bool ind_label_good(const uint8_t label[6]);
@@ -53,6 +58,7 @@ const struct ind_type *ind_type_of(uint8_t type);
 size_t ind_field_size(char field);
 size_t ind_object_size(const struct ind_type *type);
 bool ind_field_offset(const struct ind_type *type, char field, size_t *offset);
+size_t ind_unit_length(uint8_t type, size_t n);
 
 /* ---- Units and objects ---- */
 
@@ -185,6 +191,7 @@ struct ind_tick {
 struct ind_verdict ind_make_book(struct ind_book *book, uint8_t timeout, uint8_t limit);
 struct ind_turn ind_begin(struct ind_book *book, enum ind_mode mode);
 struct ind_turn ind_hear(struct ind_book *book, enum ind_told told, uint16_t serial);
+struct ind_turn ind_take(struct ind_book *book, const uint8_t *packet, size_t size);
 struct ind_tick ind_pass_time(struct ind_book *book);
 
 /* ---- The device table ---- */

@@ -1,5 +1,7 @@
-/* Verdicts, spans and the names of refusals and events. */
+/* Verdicts, spans and the names of refusals, events and outcomes. */
 #include "independent.h"
+
+#include <string.h>
 
 struct ind_verdict ind_refuse_at(enum ind_refusal refusal, size_t place)
 {
@@ -42,4 +44,38 @@ const char *ind_event_name(enum ind_event event)
 {
     static const char *const names[] = {"MORE", "SKIP", "NOISE", "LENGTH", "END", "SUM", "PACKET", "REFUSED"};
     return names[event];
+}
+
+/* The names of our own numbers; nothing told is 0, which is good. */
+const char *ind_name(uint8_t number)
+{
+    switch (number) {
+    case IND_TOLD_MORE:
+        return "MORE";
+    case IND_TOLD_NOISE:
+        return "NOISE";
+    case IND_TOLD_PACKET:
+        return "PACKET";
+    case IND_TOLD_CONFIRMED:
+        return "CONFIRMED";
+    case IND_TOLD_ANSWERED:
+        return "ANSWERED";
+    case IND_TOLD_RESENT:
+        return "RESENT";
+    case IND_TOLD_FAILED:
+        return "FAILED";
+    default:
+        return number <= IND_UNLISTED ? ind_refusal_name((enum ind_refusal)number) : "";
+    }
+}
+
+/* ROOM: "other output shorter than what is written". */
+struct ind_span ind_put_front(uint8_t *out, size_t room, const char *text)
+{
+    size_t letters = strlen(text);
+    if (room < letters)
+        return ind_no_span(ind_refuse(IND_ROOM));
+    for (size_t i = 0; i < letters; i++)
+        out[i] = (uint8_t)text[i];
+    return ind_span_at(0, letters);
 }

@@ -29,7 +29,7 @@ static uint8_t due_when_refused(uint8_t command)
 }
 
 /* The refusals that stand before VERSION in the order: "Earlier refusals give no reply and come back as that refusal". */
-static bool before_version(enum ind_refusal refusal)
+bool ind_before_version(enum ind_refusal refusal)
 {
     switch (refusal) {
     case IND_CUT:
@@ -61,7 +61,7 @@ static void write_reply(uint8_t *out, const uint8_t *packet, const uint8_t label
 struct ind_reply ind_answer_to(const uint8_t *packet, size_t size, const uint8_t label[6], uint8_t *out, size_t room)
 {
     struct ind_reply reply = {ind_judge_packet(packet, size), 0};
-    if (before_version(reply.verdict.refusal))
+    if (ind_before_version(reply.verdict.refusal))
         return reply;
     uint8_t due = reply.verdict.refusal ? due_when_refused(packet[26]) : due_when_good(packet[26]);
     reply.verdict = ind_good();

@@ -1,14 +1,14 @@
 -- The table of names: what stands at each number, that every row's number gives its name, and that no two numbers have one name.
 -- Computed over the one table. Assumes nothing.
-use Prim.Native.Nat.{ℕ, zero, suc, _+_, _-_, _≤_, _<_}
-use native.Mathlib.Nat.{zero-add, add-zero, sub-zero}
+use Prim.Native.Nat.{ℕ, _-_}
+use native.Mathlib.Nat.{sub-zero}
 use native.Mathlib.Omega.{arith}
 use mathlib.Core.Bool.{Bool, true, false, _&&_, cond, and-eq-true-iff}
 use mathlib.Core.List.{List, [], _∷_, _++_, map}
 use mathlib.Core.Path.{_≡_, refl, sym, ap, _∙_}
-use borrow.Author.Tests.{eqb-true, ne-eqb, ltb-true}
-use lib.Dec.{eqb, ltb}
-use lib.ListN.{length, getD, take, replicate, length-append}
+use borrow.Author.Tests.{eqb-true, ne-eqb}
+use lib.Dec.{eqb}
+use lib.ListN.{length, take, replicate, length-append}
 use lib.Seq.{take-append-seam}
 use Rattle.octets.specs.Searches.{every}
 use Rattle.octets.specs.Parts.{part}
@@ -17,32 +17,25 @@ use Rattle.verdict.specs.Refusals.{Row}
 use Rattle.naming.specs.declared.Name.{Name}
 use Rattle.naming.specs.Names.{names, ascii, lettersIn, letters, named, nameOf}
 
--- the names of n numbers from i on
-abbrev pub namesFrom : ℕ → ℕ → List Name
-namesFrom i zero = []
-namesFrom i (suc n) = nameOf i ∷ namesFrom (suc i) n
+-- a number is one of the table's, and what has its name
+pub named-as : (n k : ℕ) (x : Name) → n ≡ k → x ≡ nameOf k → x ≡ nameOf n
+named-as n k x e q = q ∙ ap nameOf (sym e)
 
-named-at : (i n k : ℕ) (d : Name) → k < n → getD (namesFrom i n) k d ≡ nameOf (k + i)
-named-at i zero k d h = absurd (omega arith)
-named-at i (suc n) zero d h = simp (zero-add i)
-named-at i (suc n) (suc k) d h = let on : k + suc i ≡ suc k + i = omega arith in named-at (suc i) n k d (omega arith) ∙ ap nameOf on
+-- what a match tells behind its arms, one for each row: no row has the number
+abbrev pub NotIn : List Row → Type 0 → ℕ → Type 0
+NotIn [] N n = N
+NotIn (r ∷ rs) N n = NotIn rs (N × (n ≡ r .number → ⊥)) n
 
--- the name at a number's place
-pub name-at : (n : ℕ) (d : Name) → n < 44 → getD (namesFrom 0 44) n d ≡ nameOf n
-name-at n d h = named-at 0 44 n d h ∙ ap nameOf (add-zero n)
+none-in : (rs : List Row) (N : Type 0) (n : ℕ) → NotIn rs N n → N × (lettersIn rs n ≡ [])
+unfolding lettersIn
+none-in [] N n h = (h, refl)
+none-in (r ∷ rs) N n h =
+    let k = none-in rs (N × (n ≡ r .number → ⊥)) n h in
+    (k .0 .0, simp (ne-eqb (r .number) n (λ e. k .0 .1 (sym e))) (k .1))
 
--- a number above those of a table's rows has no name in it
-none-above : (rs : List Row) (k n : ℕ) → every (λ (r : Row). ltb (r .number) k) rs ≡ true → k ≤ n → lettersIn rs n ≡ []
-unfolding lettersIn every
-none-above [] k n a h = refl
-none-above (r ∷ rs) k n a h =
-    let both = and-eq-true-iff (ltb (r .number) k) (every (λ (r : Row). ltb (r .number) k) rs) .0 a in
-    let low = ltb-true (r .number) k (both .0) in
-    simp (ne-eqb (r .number) n (λ e. omega (arith, low, h, e))) (none-above rs k n (both .1) h)
-
-pub no-name : (n : ℕ) → 44 ≤ n → named [] ≡ nameOf n
-unfolding nameOf letters every
-no-name n h = ap named (sym (none-above names 44 n refl h))
+pub no-name : (n : ℕ) → NotIn names Unit n → named [] ≡ nameOf n
+unfolding nameOf letters
+no-name n h = ap named (sym (none-in names Unit n h .1))
 
 abbrev behind : ℕ → List ℕ
 behind n = replicate (9 - length (letters n)) 0

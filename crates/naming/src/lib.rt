@@ -12,167 +12,148 @@ pub struct Name {
     pub length: usize,
 }
 
-const NONE: Name = Name {
-    bytes: [0; 9],
-    length: 0,
-};
-
-// The name of each number, at its place; 0 is good.
-const NAMES: [Name; 44] = [
-    Name {
-        bytes: *b"OK\0\0\0\0\0\0\0",
-        length: 2,
-    },
-    Name {
-        bytes: *b"STATE\0\0\0\0",
-        length: 5,
-    },
-    Name {
-        bytes: *b"ROOM\0\0\0\0\0",
-        length: 4,
-    },
-    Name {
-        bytes: *b"CUT\0\0\0\0\0\0",
-        length: 3,
-    },
-    Name {
-        bytes: *b"START\0\0\0\0",
-        length: 5,
-    },
-    Name {
-        bytes: *b"LENGTH\0\0\0",
-        length: 6,
-    },
-    Name {
-        bytes: *b"END\0\0\0\0\0\0",
-        length: 3,
-    },
-    Name {
-        bytes: *b"SUM\0\0\0\0\0\0",
-        length: 3,
-    },
-    Name {
-        bytes: *b"VERSION\0\0",
-        length: 7,
-    },
-    Name {
-        bytes: *b"COMMAND\0\0",
-        length: 7,
-    },
-    Name {
-        bytes: *b"TIME\0\0\0\0\0",
-        length: 4,
-    },
-    Name {
-        bytes: *b"UNIT\0\0\0\0\0",
-        length: 4,
-    },
-    Name {
-        bytes: *b"TYPE\0\0\0\0\0",
-        length: 4,
-    },
-    Name {
-        bytes: *b"COUNT\0\0\0\0",
-        length: 5,
-    },
-    Name {
-        bytes: *b"SIZE\0\0\0\0\0",
-        length: 4,
-    },
-    Name {
-        bytes: *b"NUMBER\0\0\0",
-        length: 6,
-    },
-    Name {
-        bytes: *b"KIND\0\0\0\0\0",
-        length: 4,
-    },
-    Name {
-        bytes: *b"TEXT\0\0\0\0\0",
-        length: 4,
-    },
-    Name {
-        bytes: *b"SETTING\0\0",
-        length: 7,
-    },
-    Name {
-        bytes: *b"FULL\0\0\0\0\0",
-        length: 4,
-    },
-    Name {
-        bytes: *b"STRAY\0\0\0\0",
-        length: 5,
-    },
-    Name {
-        bytes: *b"MANY\0\0\0\0\0",
-        length: 4,
-    },
-    Name {
-        bytes: *b"ORDER\0\0\0\0",
-        length: 5,
-    },
-    Name {
-        bytes: *b"ORPHAN\0\0\0",
-        length: 6,
-    },
-    Name {
-        bytes: *b"TAIL\0\0\0\0\0",
-        length: 4,
-    },
-    Name {
-        bytes: *b"UNLISTED\0",
-        length: 8,
-    },
-    NONE,
-    NONE,
-    NONE,
-    NONE,
-    NONE,
-    NONE,
-    Name {
-        bytes: *b"MORE\0\0\0\0\0",
-        length: 4,
-    },
-    Name {
-        bytes: *b"NOISE\0\0\0\0",
-        length: 5,
-    },
-    Name {
-        bytes: *b"PACKET\0\0\0",
-        length: 6,
-    },
-    NONE,
-    NONE,
-    NONE,
-    NONE,
-    NONE,
-    Name {
-        bytes: *b"CONFIRMED",
-        length: 9,
-    },
-    Name {
-        bytes: *b"ANSWERED\0",
-        length: 8,
-    },
-    Name {
-        bytes: *b"RESENT\0\0\0",
-        length: 6,
-    },
-    Name {
-        bytes: *b"FAILED\0\0\0",
-        length: 6,
-    },
-];
-
-// A number's name, of no bytes where the number has none.
+// A number's name by value, of no bytes where the number has none; one table, and so a long one.
 pub fn name_of(number: u8) -> Name
     ensures { λ r. ⌜ r ≡ nameOf number ⌝ }
 {
-    let names = NAMES;
-    if number < 44 {
-        return names[number as usize];
+    match number {
+        0 => Name {
+            bytes: *b"OK\0\0\0\0\0\0\0",
+            length: 2,
+        },
+        verdict::STATE => Name {
+            bytes: *b"STATE\0\0\0\0",
+            length: 5,
+        },
+        verdict::ROOM => Name {
+            bytes: *b"ROOM\0\0\0\0\0",
+            length: 4,
+        },
+        verdict::CUT => Name {
+            bytes: *b"CUT\0\0\0\0\0\0",
+            length: 3,
+        },
+        verdict::START => Name {
+            bytes: *b"START\0\0\0\0",
+            length: 5,
+        },
+        verdict::LENGTH => Name {
+            bytes: *b"LENGTH\0\0\0",
+            length: 6,
+        },
+        verdict::END => Name {
+            bytes: *b"END\0\0\0\0\0\0",
+            length: 3,
+        },
+        verdict::SUM => Name {
+            bytes: *b"SUM\0\0\0\0\0\0",
+            length: 3,
+        },
+        verdict::VERSION => Name {
+            bytes: *b"VERSION\0\0",
+            length: 7,
+        },
+        verdict::COMMAND => Name {
+            bytes: *b"COMMAND\0\0",
+            length: 7,
+        },
+        verdict::TIME => Name {
+            bytes: *b"TIME\0\0\0\0\0",
+            length: 4,
+        },
+        verdict::UNIT => Name {
+            bytes: *b"UNIT\0\0\0\0\0",
+            length: 4,
+        },
+        verdict::TYPE => Name {
+            bytes: *b"TYPE\0\0\0\0\0",
+            length: 4,
+        },
+        verdict::COUNT => Name {
+            bytes: *b"COUNT\0\0\0\0",
+            length: 5,
+        },
+        verdict::SIZE => Name {
+            bytes: *b"SIZE\0\0\0\0\0",
+            length: 4,
+        },
+        verdict::NUMBER => Name {
+            bytes: *b"NUMBER\0\0\0",
+            length: 6,
+        },
+        verdict::KIND => Name {
+            bytes: *b"KIND\0\0\0\0\0",
+            length: 4,
+        },
+        verdict::TEXT => Name {
+            bytes: *b"TEXT\0\0\0\0\0",
+            length: 4,
+        },
+        verdict::SETTING => Name {
+            bytes: *b"SETTING\0\0",
+            length: 7,
+        },
+        verdict::FULL => Name {
+            bytes: *b"FULL\0\0\0\0\0",
+            length: 4,
+        },
+        verdict::STRAY => Name {
+            bytes: *b"STRAY\0\0\0\0",
+            length: 5,
+        },
+        verdict::MANY => Name {
+            bytes: *b"MANY\0\0\0\0\0",
+            length: 4,
+        },
+        verdict::ORDER => Name {
+            bytes: *b"ORDER\0\0\0\0",
+            length: 5,
+        },
+        verdict::ORPHAN => Name {
+            bytes: *b"ORPHAN\0\0\0",
+            length: 6,
+        },
+        verdict::TAIL => Name {
+            bytes: *b"TAIL\0\0\0\0\0",
+            length: 4,
+        },
+        verdict::UNLISTED => Name {
+            bytes: *b"UNLISTED\0",
+            length: 8,
+        },
+        reading::MORE => Name {
+            bytes: *b"MORE\0\0\0\0\0",
+            length: 4,
+        },
+        reading::NOISE => Name {
+            bytes: *b"NOISE\0\0\0\0",
+            length: 5,
+        },
+        reading::PACKET => Name {
+            bytes: *b"PACKET\0\0\0",
+            length: 6,
+        },
+        place::CONFIRMED => Name {
+            bytes: *b"CONFIRMED",
+            length: 9,
+        },
+        place::ANSWERED => Name {
+            bytes: *b"ANSWERED\0",
+            length: 8,
+        },
+        place::RESENT => Name {
+            bytes: *b"RESENT\0\0\0",
+            length: 6,
+        },
+        place::FAILED => Name {
+            bytes: *b"FAILED\0\0\0",
+            length: 6,
+        },
+        _ => Name {
+            bytes: [0; 9],
+            length: 0,
+        },
     }
-    NONE
 }
 
 // A number's name to the front of a lent row.
