@@ -84,5 +84,6 @@ int main(void)
     bench_writers();
     bench_exchanges();
     bench_devices();
+    bench_names();
     return 0;
 }

@@ -41,5 +41,6 @@ void bench_units(void);
 void bench_writers(void);
 void bench_exchanges(void);
 void bench_devices(void);
+void bench_names(void);
 
 #endif

@@ -61,6 +61,30 @@ static void reply(const char *name, trawnosz_replied (*library)(trawnosz_exchang
     same_tables();
 }
 
+static uint8_t packet[TRAWNOSZ_LONGEST_PACKET];
+
+/* A packet of serial 5 under another serial or main version. */
+static size_t reply_packet(uint8_t command, size_t unit, uint8_t serial, uint8_t version)
+{
+    size_t length = make_packet(packet, command, unit);
+    packet[27 + unit] += (uint8_t)(serial - packet[2] + version - packet[4]);
+    packet[2] = serial;
+    packet[4] = version;
+    return length;
+}
+
+static void take(const char *name, size_t length)
+{
+    unsigned number = row(name, length, NOT_ABOVE_TWIN);
+    trawnosz_replied a;
+    twin_replied b;
+    set(TRAWNOSZ_EXCHANGES, 3, 0);
+    MEASURE(REGION(number, OURS), a = trawnosz_take_packet(ours, packet, length); ours = a.state);
+    MEASURE(REGION(number, PLAIN), b = twin_take_packet(&plain, packet, length));
+    agree(same_verdict(a.verdict, b.verdict) && a.exchange_place == b.place && a.outcome == b.outcome);
+    same_tables();
+}
+
 static void tick(const char *name)
 {
     unsigned number = row(name, 0, NOT_ABOVE_TWIN);
@@ -110,6 +134,21 @@ static void bench_reply(void)
     reply("reply_bad_answer: full table, last place", trawnosz_reply_bad_answer, twin_reply_bad_answer, 15);
 }
 
+static void bench_take(void)
+{
+    take("take_packet: a confirm, place 14", reply_packet(TRAWNOSZ_COMMAND_CONFIRM, 0, 14, 1));
+    take("take_packet: a deny, last place, resent", reply_packet(TRAWNOSZ_COMMAND_DENY, 0, 15, 1));
+    take("take_packet: 542 bytes, an answer, last place",
+         reply_packet(TRAWNOSZ_COMMAND_ANSWER, make_unit(packet + 27, 1, 51, 10), 15, 1));
+    take("take_packet: 1,052 bytes, an answer, last place",
+         reply_packet(TRAWNOSZ_COMMAND_ANSWER, make_unit(packet + 27, 1, 102, 10), 15, 1));
+    take("take_packet: 542 bytes of version 2, a bad answer",
+         reply_packet(TRAWNOSZ_COMMAND_ANSWER, make_unit(packet + 27, 1, 51, 10), 15, 2));
+    take("take_packet: 30 bytes of version 2, a confirm, refused", reply_packet(TRAWNOSZ_COMMAND_CONFIRM, 0, 14, 2));
+    take("take_packet: 39 bytes, a send, nothing told",
+         reply_packet(TRAWNOSZ_COMMAND_SEND, make_unit(packet + 27, 21, 1, 7), 15, 1));
+}
+
 static void bench_tick(void)
 {
     set(0, 3, 0);
@@ -130,5 +169,6 @@ void bench_exchanges(void)
     fresh();
     bench_begin();
     bench_reply();
+    bench_take();
     bench_tick();
 }

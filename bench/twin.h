@@ -42,6 +42,7 @@ void twin_put_fields(uint8_t *object, const trawnosz_fields *fields);
 
 trawnosz_verdict twin_judge_unit(const uint8_t *unit, size_t unit_length);
 trawnosz_verdict twin_judge_unit_under(const uint8_t *unit, size_t unit_length, uint8_t command);
+size_t twin_unit_length(uint8_t type, size_t n);
 trawnosz_found twin_find_object(const uint8_t *unit, size_t unit_length, size_t number);
 trawnosz_verdict twin_read_object(const uint8_t *unit, size_t unit_length, size_t number, trawnosz_fields *fields);
 trawnosz_found twin_find_description(const uint8_t *unit, size_t unit_length, size_t number);
@@ -69,9 +70,13 @@ twin_replied twin_reply_confirm(trawnosz_exchanges *table, uint16_t serial);
 twin_replied twin_reply_answer(trawnosz_exchanges *table, uint16_t serial);
 twin_replied twin_reply_deny(trawnosz_exchanges *table, uint16_t serial);
 twin_replied twin_reply_bad_answer(trawnosz_exchanges *table, uint16_t serial);
+twin_replied twin_take_packet(trawnosz_exchanges *table, const uint8_t *packet, size_t packet_length);
 trawnosz_verdict twin_tick(trawnosz_exchanges *table, trawnosz_report reports[TRAWNOSZ_EXCHANGES]);
 
 trawnosz_table twin_judge_table(const uint8_t *table, size_t table_length);
 trawnosz_found twin_find_part(const uint8_t *table, size_t table_length, const uint8_t key[7]);
+
+trawnosz_found twin_name(uint8_t number, uint8_t *out, size_t out_length);
+trawnosz_found twin_release(uint8_t *out, size_t out_length);
 
 #endif

@@ -150,6 +150,23 @@ twin_replied twin_reply_bad_answer(trawnosz_exchanges *table, uint16_t serial)
     return reply(table, serial, 1u << TRAWNOSZ_MODE_REQUEST, TRAWNOSZ_OUTCOME_NOTHING);
 }
 
+/* The numbers below VERSION are those of the tests before it. */
+twin_replied twin_take_packet(trawnosz_exchanges *table, const uint8_t *packet, size_t packet_length)
+{
+    twin_replied other = {twin_judge_packet(packet, packet_length), 0, TRAWNOSZ_OUTCOME_NOTHING};
+    uint8_t number = other.verdict.number;
+    if (number && number < TRAWNOSZ_REFUSED_VERSION)
+        return other;
+    uint16_t serial = (uint16_t)(packet[2] | packet[3] << 8);
+    if (packet[26] == TRAWNOSZ_COMMAND_ANSWER)
+        return number ? twin_reply_bad_answer(table, serial) : twin_reply_answer(table, serial);
+    if (!number && packet[26] == TRAWNOSZ_COMMAND_CONFIRM)
+        return twin_reply_confirm(table, serial);
+    if (!number && packet[26] == TRAWNOSZ_COMMAND_DENY)
+        return twin_reply_deny(table, serial);
+    return other;
+}
+
 trawnosz_verdict twin_tick(trawnosz_exchanges *table, trawnosz_report reports[TRAWNOSZ_EXCHANGES])
 {
     memset(reports, 0, TRAWNOSZ_EXCHANGES * sizeof *reports);
