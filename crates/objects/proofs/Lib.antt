@@ -1,5 +1,6 @@
 pub mod Wording
 pub mod Copying
+pub mod Bodies
 pub mod Heads
 pub mod Judging
 pub mod Placed
