@@ -1,6 +1,5 @@
 pub mod Wording
 pub mod Copying
-pub mod Bodies
 pub mod Heads
 pub mod Judging
 pub mod Placed
