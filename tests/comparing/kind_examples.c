@@ -176,6 +176,28 @@ static void try_reply_examples(struct trial *t)
     expect(t, !reply.verdict.refusal && reply.command == 0);
 }
 
+/* Example B as an answer, refused and then good, to the last of seven requests; the first, of serial 0, stays as it is. */
+static void try_take_examples(struct trial *t)
+{
+    struct ind_book book;
+    uint8_t packet[64];
+    size_t size = from_hex(packet, state);
+    both_exchanges_fresh(t, &book, 10, 1);
+    for (int i = 0; i < 7; i++)
+        both_begin(t, &book, IND_REQUEST);
+    packet[26] = 5;
+    packet[9] = 32;
+    seal(packet, size - 30);
+    struct ind_turn turn = both_take_packet(t, &book, packet, size);
+    expect(t, turn.place == 6 && turn.outcome == IND_RESENT && book.exchange[6].resends == 1 && book.exchange[0].resends == 0);
+    packet[9] = 31;
+    expect_verdict(t, both_take_packet(t, &book, packet, size).verdict, IND_SUM, 0);
+    seal(packet, size - 30);
+    turn = both_take_packet(t, &book, packet, size);
+    expect(t, turn.place == 6 && turn.outcome == IND_ANSWERED && book.exchange[6].mode == IND_FREE);
+    expect_verdict(t, both_take_packet(t, &book, packet, size).verdict, IND_STRAY, 0);
+}
+
 void try_examples(struct trial *t)
 {
     try_packet_examples(t);
@@ -183,6 +205,7 @@ void try_examples(struct trial *t)
     try_largest_n(t);
     try_receiver_examples(t);
     try_exchange_examples(t);
+    try_take_examples(t);
     try_table_examples(t);
     try_reply_examples(t);
 }
