@@ -12,7 +12,7 @@ use Rattle.octets.proofs.Parts.{put-put, put-same, length-put, stores-put}
 use Rattle.naming.specs.declared.Name.{Name}
 use Rattle.naming.specs.Names.{letters, nameOf}
 use Rattle.lines.specs.Added.{Added}
-use Rattle.lines.specs.Decimal.{lastDigit, decimal}
+use Rattle.lines.specs.Decimal.{decimal}
 use Rattle.lines.proofs.Digits.{decimal-one, decimal-more, one-at-least, one-more, decimal-short}
 
 pub added-then : {o p q x y : List ℕ} {at mid end : ℕ} → Added o at x p mid → Added p mid y q end → Added o at (x ++ y) q end

@@ -76,7 +76,7 @@ decimal-read =
     (λ n h. omega arith)
     (λ n t l h. read-last 0 (48 + n % 10) t ∙ ap (λ (x : ℕ). 10 * x + (48 + n % 10 - 48)) h ∙ omega arith)
 
--- "0" alone begins with 0
+-- of two digits or more the first is not 0
 pub no-zero-first : (n : ℕ) → 10 ≤ n → 48 < getD (decimal n) 0 0
 no-zero-first n h = by-digits (λ m t. 1 ≤ m → 48 < getD t 0 0) (λ m l i. omega arith) more n (omega arith)
   where

@@ -1,5 +1,4 @@
 -- `lines::said::is_of_entry` meets its contract: one or the other. Assumes nothing.
-use borrow.Author.Needs.{needs}
 use Rattle.lines.proofs.Saying.{either-order, or-orphan}
 use Rattle.lines.proofs.said.is_of_entry.Statement.{statement}
 use Rattle.lines.proofs.said.is_of_entry.Tie as tie
