@@ -1,7 +1,6 @@
 -- The same of calls that hand back a part, whose bytes and place are determined, and of those that lend memory, whose every byte is;
 -- of the receiver's two calls `Rattle.receiver.proofs.Demands` says it. Assumes nothing.
 use Prim.Native.Nat.{ℕ}
-use mathlib.Core.Bool.{Bool}
 use mathlib.Core.List.{List}
 use mathlib.Core.Path.{_≡_, sym, _∙_}
 use denote.Ref.{RefT, now, ptr}
@@ -26,6 +25,7 @@ use Rattle.reply.proofs.answer_to.Reads as reply-answer-to
 use Rattle.octets.proofs.put.Reads as octets-put
 use Rattle.naming.proofs.write_front.Reads as naming-write-front
 use Rattle.naming.proofs.write_name.Reads as naming-write-name
+use Rattle.lines.specs.declared.Why.{Why}
 use Rattle.lines.proofs.event_line.Reads as lines-event-line
 use Rattle.lines.proofs.last_line.Reads as lines-last-line
 use Rattle.lines.proofs.table_line.Reads as lines-table-line
@@ -104,6 +104,6 @@ pub lines-table-line-determined : (κs : _) (f t row o o' : RefT (List ℕ)) (r 
     → lines-table-line.Post κs (f, (t, (row, tt))) r (f, (t, (o, tt))) → lines-table-line.Post κs (f, (t, (row, tt))) s (f, (t, (o', tt))) → (r ≡ s) × (now o ≡ now o')
 lines-table-line-determined κs f t row o o' r s a b = (a .0 ∙ sym (b .0), a .1 ∙ sym (b .1))
 
-pub lines-unjudged-line-determined : (κs : _) (f row o o' : RefT (List ℕ)) (b : Bool) (r s : ℕ)
-    → lines-unjudged-line.Post κs (f, (b, (row, tt))) r (f, (b, (o, tt))) → lines-unjudged-line.Post κs (f, (b, (row, tt))) s (f, (b, (o', tt))) → (r ≡ s) × (now o ≡ now o')
-lines-unjudged-line-determined κs f row o o' b r s x y = (x .0 ∙ sym (y .0), x .1 ∙ sym (y .1))
+pub lines-unjudged-line-determined : (κs : _) (f row o o' : RefT (List ℕ)) (w : Why) (r s : ℕ)
+    → lines-unjudged-line.Post κs (f, (w, (row, tt))) r (f, (w, (o, tt))) → lines-unjudged-line.Post κs (f, (w, (row, tt))) s (f, (w, (o', tt))) → (r ≡ s) × (now o ≡ now o')
+lines-unjudged-line-determined κs f row o o' w r s x y = (x .0 ∙ sym (y .0), x .1 ∙ sym (y .1))

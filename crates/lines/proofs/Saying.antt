@@ -19,6 +19,7 @@ use Rattle.verdict.specs.Orders.{inOrder, good, isGood}
 use Rattle.lines.specs.Added.{Added}
 use Rattle.lines.specs.Tables.{led, counted, countCutSaid, manySaid, cutSaid, sectionSaid, sectionsSaid, ofEntry, placeSaid}
 use Rattle.lines.specs.Tables.{goodSaid, ownNumber, whySaid, tailSaid, whatSaid, refusedSaid, tableSaid}
+use Rattle.lines.specs.declared.Why.{Why}
 use Rattle.lines.specs.Tables.{fileName, fileLine, tableLine, unjudgedSaid, unjudgedLine}
 use Rattle.lines.proofs.Adding.{added-then, added-as}
 
@@ -223,6 +224,10 @@ module _ (o p1 p2 q name : List ℕ) (m1 m2 end : ℕ) (a : Added o 0 (fileName 
   unfolding tableLine fileLine
   table-made t b c = added-then (added-then a b) c
 
-  pub unjudged-made : (longer : Bool) → Added p1 m1 (unjudgedSaid longer) p2 m2 → Added p2 m2 (10 ∷ []) q end → Added o 0 (unjudgedLine name longer) q end
+  pub unjudged-made : (why : Why) → Added p1 m1 (unjudgedSaid why) p2 m2 → Added p2 m2 (10 ∷ []) q end → Added o 0 (unjudgedLine name why) q end
   unfolding unjudgedLine fileLine
-  unjudged-made longer b c = added-then (added-then a b) c
+  unjudged-made why b c = added-then (added-then a b) c
+
+-- the words of the reason that was found
+pub why-said : (o q : List ℕ) (at end : ℕ) (w v : Why) → w ≡ v → Added o at (unjudgedSaid v) q end → Added o at (unjudgedSaid w) q end
+why-said o q at end w v e a = added-as (sym (ap unjudgedSaid e)) a

@@ -12,6 +12,8 @@ use Rattle.naming.specs.Names.{ascii, letters}
 use Rattle.verdict.specs.declared.Verdict.{Verdict}
 use Rattle.verdict.specs.Orders.{inOrder, good, isGood}
 use Rattle.verdict.specs.Refusals.{ORDER, ORPHAN, TAIL}
+use Rattle.lines.specs.declared.Why.{Why}
+use Rattle.lines.specs.declared.Why.the-variants.{Absent, Folder, Barred, Broken, Longer}
 use Rattle.lines.specs.Decimal.{decimal}
 
 -- a text, and a number behind it
@@ -105,9 +107,13 @@ fileLine name said = fileName name ++ said ++ (10 ∷ [])
 unfoldable pub tableLine : Section → Section → List ℕ → List ℕ → List ℕ
 tableLine a b name t = fileLine name (tableSaid a b t)
 
--- a file that could not be judged
-unfoldable pub unjudgedSaid : Bool → List ℕ
-unjudgedSaid longer = cond longer (ascii "longer than 65536 bytes") (ascii "cannot be read")
+-- a file that could not be judged, and why
+unfoldable pub unjudgedSaid : Why → List ℕ
+unjudgedSaid Absent = ascii "no such file"
+unjudgedSaid Folder = ascii "is a directory"
+unjudgedSaid Barred = ascii "may not be read"
+unjudgedSaid Broken = ascii "cannot be read"
+unjudgedSaid Longer = ascii "longer than 65536 bytes"
 
-unfoldable pub unjudgedLine : List ℕ → Bool → List ℕ
-unjudgedLine name longer = fileLine name (unjudgedSaid longer)
+unfoldable pub unjudgedLine : List ℕ → Why → List ℕ
+unjudgedLine name why = fileLine name (unjudgedSaid why)

@@ -22,6 +22,15 @@ mod number;
 // What is said of a device table.
 mod said;
 
+// Why a file could not be judged.
+pub enum Why {
+    Absent,
+    Folder,
+    Barred,
+    Broken,
+    Longer,
+}
+
 const BLANK: u8 = 32;
 
 const NEWLINE: u8 = 10;
@@ -119,17 +128,17 @@ fn table_words(row: &mut [u8; 4224], name: &[u8], table: &[u8]) -> usize
 }
 
 // The line of a file that could not be judged, since it is longer than a table may be or else cannot be read.
-pub fn unjudged_line(name: &[u8], longer: bool, row: &mut [u8; 4224]) -> usize
-    ensures { λ r. ⌜ r ≡ length (unjudgedLine (now (name .entry)) longer) ⌝ }
-    ensures { λ r. ⌜ now (row .exit) ≡ putAt (now (row .entry)) 0 (unjudgedLine (now (name .entry)) longer) ⌝ }
+pub fn unjudged_line(name: &[u8], why: Why, row: &mut [u8; 4224]) -> usize
+    ensures { λ r. ⌜ r ≡ length (unjudgedLine (now (name .entry)) why) ⌝ }
+    ensures { λ r. ⌜ now (row .exit) ≡ putAt (now (row .entry)) 0 (unjudgedLine (now (name .entry)) why) ⌝ }
 {
-    unjudged_words(row, name, longer)
+    unjudged_words(row, name, why)
 }
 
-fn unjudged_words(row: &mut [u8; 4224], name: &[u8], longer: bool) -> usize
-    ensures { λ r. ⌜ Added (now (row .entry)) 0 (unjudgedLine (now (name .entry)) longer) (now (row .exit)) r ⌝ }
+fn unjudged_words(row: &mut [u8; 4224], name: &[u8], why: Why) -> usize
+    ensures { λ r. ⌜ Added (now (row .entry)) 0 (unjudgedLine (now (name .entry)) why) (now (row .exit)) r ⌝ }
 {
     let mut at = put_file_name(row, name);
-    at = put_unjudged(row, at, longer);
+    at = put_unjudged(row, at, why);
     put_byte(row, at, NEWLINE)
 }

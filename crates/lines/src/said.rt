@@ -8,6 +8,7 @@ ghost use Rattle.verdict.specs.Orders.{inOrder, good, isGood};
 ghost use Rattle.lines.specs.Added.{Added};
 ghost use Rattle.lines.specs.Tables.{led, counted, goodSaid, ofSaid, countCutSaid, manySaid, cutSaid, sectionSaid, sectionsSaid, ofEntry, placeSaid};
 ghost use Rattle.lines.specs.Tables.{ownNumber, whySaid, newlineSaid, tailSaid, whatSaid, refusedSaid, tableSaid, fileName, unjudgedSaid};
+use crate::Why;
 use crate::number::put_byte;
 use crate::number::put_name;
 use crate::number::put_number;
@@ -300,13 +301,16 @@ fn put_front(row: &mut [u8], name: &[u8]) -> usize
     put_text(row, 0, rows::span(name, 0, 4095))
 }
 
-pub fn put_unjudged(row: &mut [u8], at: usize, longer: bool) -> usize
+pub fn put_unjudged(row: &mut [u8], at: usize, why: Why) -> usize
     requires { ⌜ at + 23 ≤ length (now row) ⌝ }
-    ensures { λ r. ⌜ Added (now (row .entry)) at (unjudgedSaid longer) (now (row .exit)) r ⌝ }
+    ensures { λ r. ⌜ Added (now (row .entry)) at (unjudgedSaid why) (now (row .exit)) r ⌝ }
     ensures { λ r. ⌜ r ≤ at + 23 ⌝ }
 {
-    if longer {
-        return put_text(row, at, b"longer than 65536 bytes");
+    match why {
+        Why::Absent => put_text(row, at, b"no such file"),
+        Why::Folder => put_text(row, at, b"is a directory"),
+        Why::Barred => put_text(row, at, b"may not be read"),
+        Why::Broken => put_text(row, at, b"cannot be read"),
+        Why::Longer => put_text(row, at, b"longer than 65536 bytes"),
     }
-    put_text(row, at, b"cannot be read")
 }

@@ -5,6 +5,7 @@ ghost use lib.ListN.{length};
 use libc::STDERR_FILENO;
 use libc::STDIN_FILENO;
 use libc::STDOUT_FILENO;
+use lines::Why;
 
 // What came of the files so far, worst last; of these the last one has been told already.
 const GOOD: u8 = 0;
@@ -18,8 +19,22 @@ const UNWRITTEN: u8 = 3;
 // What was read: that many bytes to the end, or why there is no table.
 enum Input {
     Ended(usize),
-    Longer,
-    Failed,
+    Not(Why),
+}
+
+// Why a file could not be opened or read, by what the system says.
+fn why_not() -> Why {
+    let error = os::errno();
+    if error == libc::ENOENT {
+        return Why::Absent;
+    }
+    if error == libc::EISDIR {
+        return Why::Folder;
+    }
+    if error == libc::EACCES {
+        return Why::Barred;
+    }
+    Why::Broken
 }
 
 // Room for the longest table and one byte more.
@@ -35,7 +50,7 @@ fn read_all(fd: i32, buf: &mut [u8]) -> Input {
     while done < buf.len() {
         let got = libc::read(fd, &mut buf[done..]);
         if got < 0 {
-            return Input::Failed;
+            return Input::Not(why_not());
         }
         let n = io::count(got, &buf[done..]);
         if n == 0 {
@@ -43,7 +58,7 @@ fn read_all(fd: i32, buf: &mut [u8]) -> Input {
         }
         done = done + n;
     }
-    Input::Longer
+    Input::Not(Why::Longer)
 }
 
 // Room for the longest line.
@@ -72,9 +87,9 @@ fn tell_judged(name: &[u8], table: &[u8]) -> u8 {
     print_line(&row, length, REFUSED)
 }
 
-fn tell_unjudged(name: &[u8], longer: bool) -> u8 {
+fn tell_unjudged(name: &[u8], why: Why) -> u8 {
     let mut row = line_room();
-    let length = lines::unjudged_line(name, longer, &mut row);
+    let length = lines::unjudged_line(name, why, &mut row);
     print_line(&row, length, UNJUDGED)
 }
 
@@ -82,8 +97,7 @@ fn judge_input(fd: i32, name: &[u8]) -> u8 {
     let mut buf = room();
     match read_all(fd, &mut buf) {
         Input::Ended(n) => tell_judged(name, octets::part_of(&buf, 0, n)),
-        Input::Longer => tell_unjudged(name, true),
-        Input::Failed => tell_unjudged(name, false),
+        Input::Not(why) => tell_unjudged(name, why),
     }
 }
 
@@ -92,12 +106,12 @@ fn judge_file(i: usize) -> u8 {
     let mut path = io::buffer();
     let n = os::arg(i, &mut path);
     if os::errno() != 0 {
-        return tell_unjudged(&path, false);
+        return tell_unjudged(&path, Why::Broken);
     }
     let name = &path[..n];
     let fd = os::open_read(name);
     if fd < 0 {
-        return tell_unjudged(name, false);
+        return tell_unjudged(name, why_not());
     }
     let outcome = judge_input(fd, name);
     libc::close(fd);

@@ -23,6 +23,7 @@ read-all-spec =
     (λ c. search needs)
     (λ c. search needs)
     (λ c κs. search needs)
+    (λ c κs. search needs)
     (λ c. search needs)
     (λ c. search needs)  -- got < 0
     (λ c. search needs)

@@ -1,7 +1,7 @@
--- `lines::said::put_unjudged` meets its contract: one of two texts. Assumes nothing.
+-- `lines::said::put_unjudged` meets its contract: the text of one of five reasons. Assumes nothing.
 use native.Mathlib.Omega.{arith}
 use borrow.Author.Needs.{needs}
-use Rattle.lines.proofs.Saying.{choices}
+use Rattle.lines.proofs.Saying.{why-said}
 use Rattle.lines.specs.Tables.{unjudgedSaid}
 use Rattle.lines.proofs.said.put_unjudged.Statement.{statement}
 use Rattle.lines.proofs.said.put_unjudged.Tie as tie
@@ -12,10 +12,27 @@ put-unjudged-spec =
     tie.close
     (tie.spec
     (λ c. search needs)
-    (λ c κs. search needs)
-    (λ c. search needs)
-    (λ c. (search choices, omega arith))  -- longer
     (λ c. search needs)
     (λ c κs. search needs)
     (λ c. search needs)
-    (λ c. (search choices, omega arith)))
+    (λ c. search needs)
+    (λ c κs. search needs)
+    (λ c. search needs)
+    (λ c. search needs)
+    (λ c κs. search needs)
+    (λ c. search needs)
+    (λ c. search needs)
+    (λ c κs. search needs)
+    (λ c. search needs)
+    (λ c. search needs)
+    (λ c κs. search needs)
+    (λ c. search needs)
+    (λ c. (search why-said, omega arith))
+    (λ c. search needs)
+    (λ c. (search why-said, omega arith))
+    (λ c. search needs)
+    (λ c. (search why-said, omega arith))
+    (λ c. search needs)
+    (λ c. (search why-said, omega arith))
+    (λ c. search needs)
+    (λ c. (search why-said, omega arith)))
