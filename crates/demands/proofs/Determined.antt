@@ -29,6 +29,7 @@ use Rattle.unit.proofs.object_place.Reads as unit-object-place
 use Rattle.fields.proofs.Fields.of.Reads as fields-of
 use Rattle.unit.proofs.judge.Reads as unit-judge
 use Rattle.unit.proofs.place_in.Reads as unit-place-in
+use Rattle.unit.proofs.place_after.Reads as unit-place-after
 use Rattle.typed.proofs.read.Reads as typed-read
 use Rattle.typed.proofs.description_place.Reads as typed-description-place
 use Rattle.frame.proofs.unit_length.Reads as frame-unit-length
@@ -153,6 +154,9 @@ unit-judge-determined κs x r s a b = a ∙ sym b
 
 pub unit-place-in-determined : (κs : _) (x : _) (r s : _) → unit-place-in.Post κs x r x → unit-place-in.Post κs x s x → r ≡ s
 unit-place-in-determined κs x r s a b = a ∙ sym b
+
+pub unit-place-after-determined : (κs : _) (x : _) (r s : _) → unit-place-after.Post κs x r x → unit-place-after.Post κs x s x → r ≡ s
+unit-place-after-determined κs x r s a b = a ∙ sym b
 
 pub rows-less-determined : (κs : _) (x : _) (r s : _) → rows-less.Post κs x r x → rows-less.Post κs x s x → r ≡ s
 rows-less-determined κs x r s a b = a ∙ sym b
