@@ -411,6 +411,41 @@ trawnosz_found trawnosz_name(uint8_t number, uint8_t *out, size_t out_length);
 /* Writes the number of the archive's release in the same way. Refuses ROOM (out shorter than it). */
 trawnosz_found trawnosz_release(uint8_t *out, size_t out_length);
 
+/* ---- Stack: the bytes that a call needs at most, all that it calls included, beside its arguments, its answer and what memcpy,
+ * memmove and memset need; read out of the archive's code by tests/stack. ----
+ *
+ *   trawnosz_answer_to                304
+ *   trawnosz_begin_request            756
+ *   trawnosz_begin_send               756
+ *   trawnosz_exchanges_fresh          104
+ *   trawnosz_find_description         112
+ *   trawnosz_find_object              112
+ *   trawnosz_find_part                152
+ *   trawnosz_find_unit                176
+ *   trawnosz_fresh                     16
+ *   trawnosz_judge_packet             144
+ *   trawnosz_judge_table              104
+ *   trawnosz_judge_unit                80
+ *   trawnosz_judge_unit_under          80
+ *   trawnosz_name                      88
+ *   trawnosz_read_object              128
+ *   trawnosz_read_packet              176
+ *   trawnosz_receive                  304
+ *   trawnosz_release                   31
+ *   trawnosz_reply_answer             740
+ *   trawnosz_reply_bad_answer         740
+ *   trawnosz_reply_confirm            740
+ *   trawnosz_reply_deny               740
+ *   trawnosz_take_packet              916
+ *   trawnosz_tick                     596
+ *   trawnosz_unit_length                8
+ *   trawnosz_write_object             234
+ *   trawnosz_write_packet             224
+ *   trawnosz_write_packet_object      234
+ *   trawnosz_write_packet_text          8
+ *   trawnosz_write_text                 8
+ */
+
 /* ---- The layout that the archive was built for, each member of each struct: an error in one of these lines is another one. ---- */
 
 #define TRAWNOSZ_LAYOUT(type, member, at) typedef char type##_##member##_layout[offsetof(type, member) == (at) ? 1 : -1]
