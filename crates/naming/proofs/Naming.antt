@@ -15,11 +15,14 @@ use Rattle.octets.specs.Parts.{part}
 use Rattle.octets.proofs.Parts.{part-is}
 use Rattle.verdict.specs.Refusals.{Row}
 use Rattle.naming.specs.declared.Name.{Name}
-use Rattle.naming.specs.Names.{names, ascii, lettersIn, letters, named, nameOf}
+use Rattle.naming.specs.Names.{verdicts, happenings, names, ascii, lettersIn, letters, named, nameOf}
 
 -- a number is one of the table's, and what has its name
 pub named-as : (n k : ℕ) (x : Name) → n ≡ k → x ≡ nameOf k → x ≡ nameOf n
 named-as n k x e q = q ∙ ap nameOf (sym e)
+
+pub verdict-as : (n k : ℕ) (x : Name) → n ≡ k → x ≡ named (lettersIn verdicts k) → x ≡ named (lettersIn verdicts n)
+verdict-as n k x e q = q ∙ ap (λ (m : ℕ). named (lettersIn verdicts m)) (sym e)
 
 -- what a match tells behind its arms, one for each row: no row has the number
 abbrev pub NotIn : List Row → Type 0 → ℕ → Type 0
@@ -33,9 +36,19 @@ none-in (r ∷ rs) N n h =
     let k = none-in rs (N × (n ≡ r .number → ⊥)) n h in
     (k .0 .0, simp (ne-eqb (r .number) n (λ e. k .0 .1 (sym e))) (k .1))
 
-pub no-name : (n : ℕ) → NotIn names Unit n → named [] ≡ nameOf n
+pub no-verdict : (n : ℕ) (x : Name) → NotIn verdicts Unit n → x ≡ named [] → x ≡ named (lettersIn verdicts n)
+no-verdict n x h e = e ∙ ap named (sym (none-in verdicts Unit n h .1))
+
+-- rows behind others give a name only where these have none
+first-named : (rs qs : List Row) (n : ℕ) → lettersIn qs n ≡ [] → lettersIn (rs ++ qs) n ≡ lettersIn rs n
+unfolding lettersIn
+first-named [] qs n e = e
+first-named (r ∷ rs) qs n e = ap (λ (t : List ℕ). cond (eqb (r .number) n) (ascii (r .name)) t) (first-named rs qs n e)
+
+-- no event and no outcome: what a verdict has
+pub verdict-named : (n : ℕ) (x : Name) → NotIn happenings Unit n → x ≡ named (lettersIn verdicts n) → x ≡ nameOf n
 unfolding nameOf letters
-no-name n h = ap named (sym (none-in names Unit n h .1))
+verdict-named n x h e = e ∙ ap named (sym (first-named verdicts happenings n (none-in happenings Unit n h .1)))
 
 abbrev behind : ℕ → List ℕ
 behind n = replicate (9 - length (letters n)) 0

@@ -13,12 +13,17 @@ use Rattle.place.specs.Steps.{CONFIRMED, ANSWERED, RESENT, FAILED}
 use Rattle.naming.specs.declared.Name.{Name}
 
 -- "the judge's OK or refusal name": 0 is good, and so OK is also said of an outcome of which nothing is told
+abbrev pub verdicts : List Row
+verdicts = row 0 "OK" ∷ refusals
+
+-- the events that are no refused start, and the outcomes
+abbrev pub happenings : List Row
+happenings =
+    row MORE "MORE" ∷ row NOISE "NOISE" ∷ row PACKET "PACKET"
+    ∷ row CONFIRMED "CONFIRMED" ∷ row ANSWERED "ANSWERED" ∷ row RESENT "RESENT" ∷ row FAILED "FAILED" ∷ []
+
 abbrev pub names : List Row
-names =
-    row 0 "OK"
-    ∷ refusals
-    ++ (row MORE "MORE" ∷ row NOISE "NOISE" ∷ row PACKET "PACKET"
-    ∷ row CONFIRMED "CONFIRMED" ∷ row ANSWERED "ANSWERED" ∷ row RESENT "RESENT" ∷ row FAILED "FAILED" ∷ [])
+names = verdicts ++ happenings
 
 -- a text as its bytes
 abbrev pub ascii : String → List ℕ

@@ -1,7 +1,7 @@
 // The names of refusals, events and outcomes, as the programs print them and as a lent row receives them.
 ghost use mathlib.Core.Path.{_≡_};
 ghost use Rattle.octets.specs.Parts.{putAt};
-ghost use Rattle.naming.specs.Names.{letters, nameOf};
+ghost use Rattle.naming.specs.Names.{verdicts, lettersIn, letters, named, nameOf};
 ghost use Rattle.naming.specs.Fronts.{frontPart};
 use verdict::Part;
 use verdict::Verdict;
@@ -12,148 +12,61 @@ pub struct Name {
     pub length: usize,
 }
 
-// A number's name by value, of no bytes where the number has none; one table, and so a long one.
+// A number's name by value, of no bytes where the number has none.
 pub fn name_of(number: u8) -> Name
     ensures { λ r. ⌜ r ≡ nameOf number ⌝ }
 {
     match number {
-        0 => Name {
-            bytes: *b"OK\0\0\0\0\0\0\0",
-            length: 2,
-        },
-        verdict::STATE => Name {
-            bytes: *b"STATE\0\0\0\0",
-            length: 5,
-        },
-        verdict::ROOM => Name {
-            bytes: *b"ROOM\0\0\0\0\0",
-            length: 4,
-        },
-        verdict::CUT => Name {
-            bytes: *b"CUT\0\0\0\0\0\0",
-            length: 3,
-        },
-        verdict::START => Name {
-            bytes: *b"START\0\0\0\0",
-            length: 5,
-        },
-        verdict::LENGTH => Name {
-            bytes: *b"LENGTH\0\0\0",
-            length: 6,
-        },
-        verdict::END => Name {
-            bytes: *b"END\0\0\0\0\0\0",
-            length: 3,
-        },
-        verdict::SUM => Name {
-            bytes: *b"SUM\0\0\0\0\0\0",
-            length: 3,
-        },
-        verdict::VERSION => Name {
-            bytes: *b"VERSION\0\0",
-            length: 7,
-        },
-        verdict::COMMAND => Name {
-            bytes: *b"COMMAND\0\0",
-            length: 7,
-        },
-        verdict::TIME => Name {
-            bytes: *b"TIME\0\0\0\0\0",
-            length: 4,
-        },
-        verdict::UNIT => Name {
-            bytes: *b"UNIT\0\0\0\0\0",
-            length: 4,
-        },
-        verdict::TYPE => Name {
-            bytes: *b"TYPE\0\0\0\0\0",
-            length: 4,
-        },
-        verdict::COUNT => Name {
-            bytes: *b"COUNT\0\0\0\0",
-            length: 5,
-        },
-        verdict::SIZE => Name {
-            bytes: *b"SIZE\0\0\0\0\0",
-            length: 4,
-        },
-        verdict::NUMBER => Name {
-            bytes: *b"NUMBER\0\0\0",
-            length: 6,
-        },
-        verdict::KIND => Name {
-            bytes: *b"KIND\0\0\0\0\0",
-            length: 4,
-        },
-        verdict::TEXT => Name {
-            bytes: *b"TEXT\0\0\0\0\0",
-            length: 4,
-        },
-        verdict::SETTING => Name {
-            bytes: *b"SETTING\0\0",
-            length: 7,
-        },
-        verdict::FULL => Name {
-            bytes: *b"FULL\0\0\0\0\0",
-            length: 4,
-        },
-        verdict::STRAY => Name {
-            bytes: *b"STRAY\0\0\0\0",
-            length: 5,
-        },
-        verdict::MANY => Name {
-            bytes: *b"MANY\0\0\0\0\0",
-            length: 4,
-        },
-        verdict::ORDER => Name {
-            bytes: *b"ORDER\0\0\0\0",
-            length: 5,
-        },
-        verdict::ORPHAN => Name {
-            bytes: *b"ORPHAN\0\0\0",
-            length: 6,
-        },
-        verdict::TAIL => Name {
-            bytes: *b"TAIL\0\0\0\0\0",
-            length: 4,
-        },
-        verdict::UNLISTED => Name {
-            bytes: *b"UNLISTED\0",
-            length: 8,
-        },
-        reading::MORE => Name {
-            bytes: *b"MORE\0\0\0\0\0",
-            length: 4,
-        },
-        reading::NOISE => Name {
-            bytes: *b"NOISE\0\0\0\0",
-            length: 5,
-        },
-        reading::PACKET => Name {
-            bytes: *b"PACKET\0\0\0",
-            length: 6,
-        },
-        place::CONFIRMED => Name {
-            bytes: *b"CONFIRMED",
-            length: 9,
-        },
-        place::ANSWERED => Name {
-            bytes: *b"ANSWERED\0",
-            length: 8,
-        },
-        place::RESENT => Name {
-            bytes: *b"RESENT\0\0\0",
-            length: 6,
-        },
-        place::FAILED => Name {
-            bytes: *b"FAILED\0\0\0",
-            length: 6,
-        },
-        _ => Name {
-            bytes: [0; 9],
-            length: 0,
-        },
+        reading::MORE => named(*b"MORE\0\0\0\0\0", 4),
+        reading::NOISE => named(*b"NOISE\0\0\0\0", 5),
+        reading::PACKET => named(*b"PACKET\0\0\0", 6),
+        place::CONFIRMED => named(*b"CONFIRMED", 9),
+        place::ANSWERED => named(*b"ANSWERED\0", 8),
+        place::RESENT => named(*b"RESENT\0\0\0", 6),
+        place::FAILED => named(*b"FAILED\0\0\0", 6),
+        _ => verdict_name(number),
     }
+}
+
+// OK, or a refusal's name.
+fn verdict_name(number: u8) -> Name
+    ensures { λ r. ⌜ r ≡ named (lettersIn verdicts number) ⌝ }
+{
+    match number {
+        0 => named(*b"OK\0\0\0\0\0\0\0", 2),
+        verdict::STATE => named(*b"STATE\0\0\0\0", 5),
+        verdict::ROOM => named(*b"ROOM\0\0\0\0\0", 4),
+        verdict::CUT => named(*b"CUT\0\0\0\0\0\0", 3),
+        verdict::START => named(*b"START\0\0\0\0", 5),
+        verdict::LENGTH => named(*b"LENGTH\0\0\0", 6),
+        verdict::END => named(*b"END\0\0\0\0\0\0", 3),
+        verdict::SUM => named(*b"SUM\0\0\0\0\0\0", 3),
+        verdict::VERSION => named(*b"VERSION\0\0", 7),
+        verdict::COMMAND => named(*b"COMMAND\0\0", 7),
+        verdict::TIME => named(*b"TIME\0\0\0\0\0", 4),
+        verdict::UNIT => named(*b"UNIT\0\0\0\0\0", 4),
+        verdict::TYPE => named(*b"TYPE\0\0\0\0\0", 4),
+        verdict::COUNT => named(*b"COUNT\0\0\0\0", 5),
+        verdict::SIZE => named(*b"SIZE\0\0\0\0\0", 4),
+        verdict::NUMBER => named(*b"NUMBER\0\0\0", 6),
+        verdict::KIND => named(*b"KIND\0\0\0\0\0", 4),
+        verdict::TEXT => named(*b"TEXT\0\0\0\0\0", 4),
+        verdict::SETTING => named(*b"SETTING\0\0", 7),
+        verdict::FULL => named(*b"FULL\0\0\0\0\0", 4),
+        verdict::STRAY => named(*b"STRAY\0\0\0\0", 5),
+        verdict::MANY => named(*b"MANY\0\0\0\0\0", 4),
+        verdict::ORDER => named(*b"ORDER\0\0\0\0", 5),
+        verdict::ORPHAN => named(*b"ORPHAN\0\0\0", 6),
+        verdict::TAIL => named(*b"TAIL\0\0\0\0\0", 4),
+        verdict::UNLISTED => named(*b"UNLISTED\0", 8),
+        _ => named([0; 9], 0),
+    }
+}
+
+fn named(bytes: [u8; 9], length: usize) -> Name
+    ensures { λ r. ⌜ r ≡ record { bytes = bytes; length = length } ⌝ }
+{
+    Name { bytes, length }
 }
 
 // A number's name to the front of a lent row.
