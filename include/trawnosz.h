@@ -371,7 +371,8 @@ trawnosz_begun trawnosz_begin_send(trawnosz_exchanges table);
 trawnosz_begun trawnosz_begin_request(trawnosz_exchanges table);
 
 /* The step of the exchange that the reply fits, with its place and outcome: a confirm fits a send, an answer a request, a
- * deny either, a bad answer (command 5, refused at VERSION or later) a request. Refuse STATE, STRAY. */
+ * deny either, a bad answer (command 5, refused at VERSION or later) a request. Refuse STATE, STRAY. Of a refused answer
+ * trawnosz_read_packet gives no serial but 0: trawnosz_take_packet, below, takes it from the bytes. */
 trawnosz_replied trawnosz_reply_confirm(trawnosz_exchanges table, uint16_t serial);
 trawnosz_replied trawnosz_reply_answer(trawnosz_exchanges table, uint16_t serial);
 trawnosz_replied trawnosz_reply_deny(trawnosz_exchanges table, uint16_t serial);
