@@ -12,9 +12,8 @@ use Rattle.packet.specs.Frames.{judgedPacket}
 use Rattle.packet.specs.Headers.{headerOf}
 use Rattle.octets.proofs.Parts.{put-same}
 use Rattle.reading.specs.declared.Event.{Event}
-use Rattle.reading.specs.declared.Event.the-variants.{More, Noise, Length, End, Sum, Packet, Refused}
-use Rattle.reading.specs.Values.{NOISE, PACKET}
-use Rattle.verdict.specs.Refusals.{LENGTH, END, SUM}
+use Rattle.reading.specs.declared.Event.the-variants.{Packet}
+use Rattle.reading.specs.Values.{PACKET}
 use Rattle.verdict.specs.declared.Verdict.{Verdict}
 use Rattle.lines.specs.Added.{Added}
 use Rattle.lines.specs.Decimal.{decimal}
@@ -68,34 +67,16 @@ module _ (o l : List ℕ) (e : l ≡ []) where
   pub none-row : o ≡ putAt o 0 l
   none-row = sym (ap (putAt o 0) e ∙ put-same o 0 [] (omega arith) refl)
 
--- the line of each event
-module _ (s : ℕ) (out : List ℕ) (e : Event) where
-  pub of-more : e ≡ More → eventLine s e out ≡ []
-  unfolding eventLine
-  of-more h = ap (λ (x : Event). eventLine s x out) h
+-- the line of the event that was found
+module _ (s : ℕ) (out : List ℕ) (e v : Event) (h : e ≡ v) where
+  pub no-line : eventLine s v out ≡ [] → eventLine s e out ≡ []
+  no-line t = ap (λ (x : Event). eventLine s x out) h ∙ t
 
-  pub of-refused : (n : ℕ) → e ≡ Refused n → eventLine s e out ≡ []
-  unfolding eventLine
-  of-refused n h = ap (λ (x : Event). eventLine s x out) h
+  pub its-line : (t : List ℕ) → t ≡ eventLine s v out → t ≡ eventLine s e out
+  its-line t k = k ∙ sym (ap (λ (x : Event). eventLine s x out) h)
 
-  pub of-noise : e ≡ Noise → shortLine s NOISE ≡ eventLine s e out
-  unfolding eventLine
-  of-noise h = sym (ap (λ (x : Event). eventLine s x out) h)
+pub packet-line : (s n : ℕ) (p out : List ℕ) (e : Event) → e ≡ Packet n → p ≡ take n (drop 0 out) → packetLine s n p ≡ eventLine s e out
+unfolding eventLine
+packet-line s n p out e h k = ap (packetLine s n) k ∙ sym (ap (λ (x : Event). eventLine s x out) h)
 
-  pub of-length : e ≡ Length → shortLine s LENGTH ≡ eventLine s e out
-  unfolding eventLine
-  of-length h = sym (ap (λ (x : Event). eventLine s x out) h)
-
-  pub of-end : e ≡ End → shortLine s END ≡ eventLine s e out
-  unfolding eventLine
-  of-end h = sym (ap (λ (x : Event). eventLine s x out) h)
-
-  pub of-sum : e ≡ Sum → shortLine s SUM ≡ eventLine s e out
-  unfolding eventLine
-  of-sum h = sym (ap (λ (x : Event). eventLine s x out) h)
-
-  pub of-packet : (n : ℕ) (p : List ℕ) → e ≡ Packet n → p ≡ take n (drop 0 out) → packetLine s n p ≡ eventLine s e out
-  unfolding eventLine
-  of-packet n p h k = ap (packetLine s n) k ∙ sym (ap (λ (x : Event). eventLine s x out) h)
-
-pub ruleset events = (made-long, made-row, none-long, none-row, of-more, of-refused, of-noise, of-length, of-end, of-sum, of-packet)
+pub ruleset events = (made-long, made-row, none-long, none-row, no-line, its-line, packet-line)
