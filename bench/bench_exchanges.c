@@ -38,14 +38,26 @@ static void fresh(void)
     same_tables();
 }
 
-static void begin(const char *name, trawnosz_begun (*library)(trawnosz_exchanges), twin_begun (*twin)(trawnosz_exchanges *))
+static uint8_t out[2][TRAWNOSZ_LONGEST_PACKET];
+
+/* A unit of n objects in both outputs, where a packet has it. */
+static size_t units(uint8_t type, uint8_t n, size_t size)
 {
-    unsigned number = row(name, 0, NOT_ABOVE_TWIN);
+    memset(out, 0, sizeof out);
+    make_unit(out[0] + 27, type, n, size);
+    return make_unit(out[1] + 27, type, n, size);
+}
+
+static void begin_and_write(const char *name, uint8_t command, size_t length)
+{
+    unsigned number = row(name, 30 + length, NOT_ABOVE_TWIN);
+    trawnosz_draft draft = {0, sample_label, {1}, {2}, command};
     trawnosz_begun a;
     twin_begun b;
-    MEASURE(REGION(number, OURS), a = library(ours); ours = a.state);
-    MEASURE(REGION(number, PLAIN), b = twin(&plain));
-    agree(same_verdict(a.verdict, b.verdict) && a.exchange_place == b.place && a.serial == b.serial);
+    MEASURE(REGION(number, OURS), a = trawnosz_begin_and_write(ours, out[0], sizeof out[0], draft, length); ours = a.state);
+    MEASURE(REGION(number, PLAIN), b = twin_begin_and_write(&plain, out[1], sizeof out[1], &draft, length));
+    agree(same_verdict(a.verdict, b.verdict) && a.exchange_place == b.place && a.serial == b.serial && a.length == b.length);
+    agree(memcmp(out[0], out[1], sizeof out[0]) == 0);
     same_tables();
 }
 
@@ -102,18 +114,26 @@ static void tick(const char *name)
 static void bench_begin(void)
 {
     set(0, 3, 0);
-    begin("begin_send: empty table", trawnosz_begin_send, twin_begin_send);
+    begin_and_write("begin_and_write: 39 bytes, empty table", TRAWNOSZ_COMMAND_SEND, units(21, 1, 7));
     set(8, 3, 0);
-    begin("begin_send: 8 open", trawnosz_begin_send, twin_begin_send);
+    begin_and_write("begin_and_write: 39 bytes, 8 open", TRAWNOSZ_COMMAND_SEND, units(21, 1, 7));
     set(15, 3, 0);
-    begin("begin_send: 15 open", trawnosz_begin_send, twin_begin_send);
+    begin_and_write("begin_and_write: 39 bytes, 15 open", TRAWNOSZ_COMMAND_SEND, units(21, 1, 7));
     set(15, 3, 0);
     plain.next = ours.next = 0;
-    begin("begin_send: 15 open, the next 15 serials", trawnosz_begin_send, twin_begin_send);
-    set(16, 3, 0);
-    begin("begin_send: full table, refused", trawnosz_begin_send, twin_begin_send);
+    begin_and_write("begin_and_write: 39 bytes, 15 open, the next 15 serials", TRAWNOSZ_COMMAND_SEND, units(21, 1, 7));
     set(15, 3, 0);
-    begin("begin_request: 15 open", trawnosz_begin_request, twin_begin_request);
+    size_t request = units(61, 1, 2);
+    out[0][30] = out[1][30] = 2;
+    begin_and_write("begin_and_write: 34 bytes, a request, 15 open", TRAWNOSZ_COMMAND_REQUEST, request);
+    set(16, 3, 0);
+    begin_and_write("begin_and_write: full table, refused", TRAWNOSZ_COMMAND_SEND, units(21, 1, 7));
+    set(8, 3, 0);
+    begin_and_write("begin_and_write: 542 bytes, 8 open", TRAWNOSZ_COMMAND_SEND, units(1, 51, 10));
+    set(8, 3, 0);
+    begin_and_write("begin_and_write: 1,052 bytes, 8 open", TRAWNOSZ_COMMAND_SEND, units(1, 102, 10));
+    set(0, 3, 0);
+    begin_and_write("begin_and_write: 38 bytes, type 90 in a send, refused", TRAWNOSZ_COMMAND_SEND, units(90, 1, 6));
 }
 
 static void bench_reply(void)

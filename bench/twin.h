@@ -54,6 +54,7 @@ trawnosz_verdict twin_write_text(uint8_t *out, size_t out_length, const uint8_t 
 typedef struct twin_begun {
     trawnosz_verdict verdict;
     size_t place;
+    size_t length;
     uint16_t serial;
 } twin_begun;
 
@@ -64,8 +65,8 @@ typedef struct twin_replied {
 } twin_replied;
 
 trawnosz_verdict twin_exchanges_fresh(trawnosz_exchanges *table, uint8_t timeout, uint8_t resends);
-twin_begun twin_begin_send(trawnosz_exchanges *table);
-twin_begun twin_begin_request(trawnosz_exchanges *table);
+twin_begun twin_begin_and_write(trawnosz_exchanges *table, uint8_t *out, size_t out_length, const trawnosz_draft *draft,
+                                size_t length);
 twin_replied twin_reply_confirm(trawnosz_exchanges *table, uint16_t serial);
 twin_replied twin_reply_answer(trawnosz_exchanges *table, uint16_t serial);
 twin_replied twin_reply_deny(trawnosz_exchanges *table, uint16_t serial);

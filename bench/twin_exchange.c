@@ -3,6 +3,8 @@
 
 #include "twin.h"
 
+enum { AROUND_UNIT = 30 };
+
 static trawnosz_verdict refused(uint8_t number)
 {
     trawnosz_verdict verdict = {number, 0};
@@ -54,9 +56,35 @@ trawnosz_verdict twin_exchanges_fresh(trawnosz_exchanges *table, uint8_t timeout
     return refused(TRAWNOSZ_OK);
 }
 
-static twin_begun begin(trawnosz_exchanges *table, uint8_t mode)
+/* The mode that an exchange begins in under a command; FREE where the command begins none. */
+static uint8_t mode_of(uint8_t command)
 {
-    twin_begun begun = {refused(TRAWNOSZ_OK), 0, 0};
+    switch (command) {
+    case TRAWNOSZ_COMMAND_CONTROL:
+    case TRAWNOSZ_COMMAND_SEND:
+        return TRAWNOSZ_MODE_SEND;
+    case TRAWNOSZ_COMMAND_REQUEST:
+        return TRAWNOSZ_MODE_REQUEST;
+    default:
+        return TRAWNOSZ_MODE_FREE;
+    }
+}
+
+/* A command that begins nothing is made 0, so that the packet's writer refuses it in its turn, after LENGTH and ROOM. */
+static trawnosz_header header_of(const trawnosz_draft *draft, uint16_t serial, uint8_t mode)
+{
+    trawnosz_header header = {serial, draft->version, draft->label, {0}, {0}, 0};
+    memcpy(header.source, draft->source, sizeof header.source);
+    memcpy(header.destination, draft->destination, sizeof header.destination);
+    if (mode != TRAWNOSZ_MODE_FREE)
+        header.command = draft->command;
+    return header;
+}
+
+twin_begun twin_begin_and_write(trawnosz_exchanges *table, uint8_t *out, size_t out_length, const trawnosz_draft *draft,
+                                size_t length)
+{
+    twin_begun begun = {refused(TRAWNOSZ_OK), 0, 0, 0};
     if (state_bad(table)) {
         begun.verdict.number = TRAWNOSZ_REFUSED_STATE;
         return begun;
@@ -71,22 +99,18 @@ static twin_begun begin(trawnosz_exchanges *table, uint8_t mode)
     uint16_t serial = table->next;
     while (is_open(table, TRAWNOSZ_EXCHANGES, serial))
         serial++;
+    uint8_t mode = mode_of(draft->command);
+    trawnosz_header header = header_of(draft, serial, mode);
+    begun.verdict = twin_write_packet(out, out_length, &header, length);
+    if (begun.verdict.number)
+        return begun;
     table->places[i].serial = serial;
     table->places[i].mode = mode;
     table->next = (uint16_t)(serial + 1);
     begun.place = i;
+    begun.length = AROUND_UNIT + length;
     begun.serial = serial;
     return begun;
-}
-
-twin_begun twin_begin_send(trawnosz_exchanges *table)
-{
-    return begin(table, TRAWNOSZ_MODE_SEND);
-}
-
-twin_begun twin_begin_request(trawnosz_exchanges *table)
-{
-    return begin(table, TRAWNOSZ_MODE_REQUEST);
 }
 
 static void set_free(trawnosz_exchange *place)

@@ -67,10 +67,13 @@ static void print_parts(const uint8_t *unit, size_t length)
         print_part(trawnosz_read_object(unit, length, i).fields);
 }
 
-/* Sends a panel's unit on to the centre, and keeps the packet until the exchange has ended. */
+/* Sends a panel's unit on to the centre; the packet is kept, to be sent again, at the place that only the call tells. */
 static void forward(box *b, const uint8_t *unit, size_t length)
 {
-    trawnosz_begun begun = trawnosz_begin_send(b->table);
+    uint8_t out[TRAWNOSZ_LONGEST_PACKET];
+    trawnosz_draft draft = {0, b->clock, {2}, {3}, TRAWNOSZ_COMMAND_SEND};
+    memcpy(out + UNIT_AT, unit, length);
+    trawnosz_begun begun = trawnosz_begin_and_write(b->table, out, sizeof out, draft, length);
     b->table = begun.state;
     if (begun.verdict.number) {
         fputs("  not sent: ", stdout);
@@ -79,10 +82,8 @@ static void forward(box *b, const uint8_t *unit, size_t length)
         return;
     }
     sent *kept = &b->kept[begun.exchange_place];
-    trawnosz_header header = {begun.serial, 0, b->clock, {2}, {3}, TRAWNOSZ_COMMAND_SEND};
-    memcpy(kept->bytes + UNIT_AT, unit, length);
-    if (trawnosz_write_packet(kept->bytes, sizeof kept->bytes, header, length).number == TRAWNOSZ_OK)
-        kept->length = FRAME_BYTES + length;
+    memcpy(kept->bytes, out, begun.length);
+    kept->length = begun.length;
     print_bytes("sent", kept->bytes, kept->length);
 }
 

@@ -26,7 +26,7 @@ extern "C" {
 #endif
 
 /* The release that this header is of; trawnosz_release tells that of the archive. */
-#define TRAWNOSZ_RELEASE "1.0"
+#define TRAWNOSZ_RELEASE "1.1"
 
 /* Sizes and limits. */
 enum {
@@ -54,7 +54,7 @@ enum {
     TRAWNOSZ_REFUSED_END = 6,      /* packet does not end 35, 35 */
     TRAWNOSZ_REFUSED_SUM = 7,      /* the sum is wrong */
     TRAWNOSZ_REFUSED_VERSION = 8,  /* main version not 1 */
-    TRAWNOSZ_REFUSED_COMMAND = 9,  /* not 1 to 6 */
+    TRAWNOSZ_REFUSED_COMMAND = 9,  /* not 1 to 6; where an exchange is begun, not 1, 2 or 4 */
     TRAWNOSZ_REFUSED_TIME = 10,    /* a label out of range; place 0 is the header, i+1 object i */
     TRAWNOSZ_REFUSED_UNIT = 11,    /* 3 or 6: L above 0; other commands, or a unit alone: under 2 bytes */
     TRAWNOSZ_REFUSED_TYPE = 12,    /* not in the table, or not carried by the command */
@@ -157,6 +157,15 @@ typedef struct trawnosz_header {
     uint8_t command;
 } trawnosz_header;
 
+/* What the header of a packet needs but its serial, which the exchange table gives. */
+typedef struct trawnosz_draft {
+    uint8_t version;
+    trawnosz_label label;
+    uint8_t source[6];
+    uint8_t destination[6];
+    uint8_t command;
+} trawnosz_draft;
+
 /* A packet's fields and L, zeros where it is refused. */
 typedef struct trawnosz_opened {
     trawnosz_verdict verdict;
@@ -238,9 +247,11 @@ typedef struct trawnosz_made {
     trawnosz_exchanges state;
 } trawnosz_made;
 
+/* The place that was opened, the length of the packet that was written, and its serial; zeros where it is refused. */
 typedef struct trawnosz_begun {
     trawnosz_verdict verdict;
     size_t exchange_place;
+    size_t length;
     uint16_t serial;
     trawnosz_exchanges state;
 } trawnosz_begun;
@@ -366,9 +377,14 @@ trawnosz_verdict trawnosz_write_text(uint8_t *out, size_t out_length, const uint
 /* A fresh table; SETTING, with a table of zeros, where T is not 1 to 10 or R over 9. */
 trawnosz_made trawnosz_exchanges_fresh(uint8_t timeout, uint8_t resends);
 
-/* Open the lowest free place under the first serial, from the next one upward, that is not open. Refuse STATE, FULL. */
-trawnosz_begun trawnosz_begin_send(trawnosz_exchanges table);
-trawnosz_begun trawnosz_begin_request(trawnosz_exchanges table);
+/* Begins an exchange and writes its packet as one: the packet around the unit of `length` bytes that already stands from
+ * out[27] on, as trawnosz_write_packet writes it, under the first serial, from the next one upward, that is not open; only
+ * then is the lowest free place opened under it. Every member of the draft is written; commands 1 and 2 open a send, 4 a
+ * request. Refuses STATE, FULL, then as trawnosz_write_packet: LENGTH, ROOM (under 30 + length), COMMAND (here for all but
+ * 1, 2 and 4), TIME, UNIT, TYPE, COUNT, SIZE, TIME. Refused, no place is open that was not before and no serial is used up:
+ * the next call that is good gives the serial that this one would have given. */
+trawnosz_begun trawnosz_begin_and_write(trawnosz_exchanges table, uint8_t *out, size_t out_length, trawnosz_draft draft,
+                                        size_t length);
 
 /* The step of the exchange that the reply fits, with its place and outcome: a confirm fits a send, an answer a request, a
  * deny either, a bad answer (command 5, refused at VERSION or later) a request. Refuse STATE, STRAY. Of a refused answer
@@ -416,8 +432,7 @@ trawnosz_found trawnosz_release(uint8_t *out, size_t out_length);
  * memmove and memset need; read out of the archive's code by tests/stack. ----
  *
  *   trawnosz_answer_to                304
- *   trawnosz_begin_request            756
- *   trawnosz_begin_send               756
+ *   trawnosz_begin_and_write          756
  *   trawnosz_exchanges_fresh          104
  *   trawnosz_find_description         112
  *   trawnosz_find_object              112
@@ -473,6 +488,12 @@ TRAWNOSZ_LAYOUT(trawnosz_header, label, 3);
 TRAWNOSZ_LAYOUT(trawnosz_header, source, 9);
 TRAWNOSZ_LAYOUT(trawnosz_header, destination, 15);
 TRAWNOSZ_LAYOUT(trawnosz_header, command, 21);
+TRAWNOSZ_LAYOUT_SIZE(trawnosz_draft, 20);
+TRAWNOSZ_LAYOUT(trawnosz_draft, version, 0);
+TRAWNOSZ_LAYOUT(trawnosz_draft, label, 1);
+TRAWNOSZ_LAYOUT(trawnosz_draft, source, 7);
+TRAWNOSZ_LAYOUT(trawnosz_draft, destination, 13);
+TRAWNOSZ_LAYOUT(trawnosz_draft, command, 19);
 TRAWNOSZ_LAYOUT_SIZE(trawnosz_opened, 48);
 TRAWNOSZ_LAYOUT(trawnosz_opened, verdict, 0);
 TRAWNOSZ_LAYOUT(trawnosz_opened, header, 16);
@@ -519,11 +540,12 @@ TRAWNOSZ_LAYOUT(trawnosz_exchanges, resends, 99);
 TRAWNOSZ_LAYOUT_SIZE(trawnosz_made, 120);
 TRAWNOSZ_LAYOUT(trawnosz_made, verdict, 0);
 TRAWNOSZ_LAYOUT(trawnosz_made, state, 16);
-TRAWNOSZ_LAYOUT_SIZE(trawnosz_begun, 128);
+TRAWNOSZ_LAYOUT_SIZE(trawnosz_begun, 136);
 TRAWNOSZ_LAYOUT(trawnosz_begun, verdict, 0);
 TRAWNOSZ_LAYOUT(trawnosz_begun, exchange_place, 16);
-TRAWNOSZ_LAYOUT(trawnosz_begun, serial, 24);
-TRAWNOSZ_LAYOUT(trawnosz_begun, state, 26);
+TRAWNOSZ_LAYOUT(trawnosz_begun, length, 24);
+TRAWNOSZ_LAYOUT(trawnosz_begun, serial, 32);
+TRAWNOSZ_LAYOUT(trawnosz_begun, state, 34);
 TRAWNOSZ_LAYOUT_SIZE(trawnosz_replied, 128);
 TRAWNOSZ_LAYOUT(trawnosz_replied, verdict, 0);
 TRAWNOSZ_LAYOUT(trawnosz_replied, exchange_place, 16);

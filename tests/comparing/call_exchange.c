@@ -2,7 +2,11 @@
  * serial (low byte first), mode, resends, age of each place, then next, timeout, resends. */
 #include "comparing.h"
 
+#include <string.h>
+
 static uint8_t told[16 * 5 + 4];
+static uint8_t out_before[LENT_MOST];
+static struct ind_draft draft_before;
 
 static void name_table(struct trial *t, const char *call, const struct ind_book *book)
 {
@@ -39,22 +43,55 @@ struct ind_verdict both_exchanges_fresh(struct trial *t, struct ind_book *book, 
     return mine;
 }
 
-struct ind_turn both_begin(struct trial *t, struct ind_book *book, enum ind_mode mode)
+/* Copies, since an example may tell of a difference after its output and draft are gone. */
+static void name_draft(const uint8_t *out, size_t room, const struct ind_draft *draft)
+{
+    if (room > 0)
+        memcpy(out_before, out, room);
+    draft_before = *draft;
+    with_bytes("out", out_before, room);
+    with_number("version", draft->user_version);
+    with_bytes("label", draft_before.label, 6);
+    with_bytes("source", draft_before.source, 6);
+    with_bytes("destination", draft_before.destination, 6);
+    with_number("command", draft->command);
+    with_number("length", draft->unit_size);
+}
+
+static void tell_begun(struct answer *answer, const struct ind_begun *begun, const struct ind_book *book)
+{
+    tell_verdict(answer, begun->verdict);
+    tell(answer, "taken place", begun->place);
+    tell(answer, "serial", begun->serial);
+    tell(answer, "length", begun->packet_size);
+    tell_book(answer, book);
+}
+
+static void tell_their_begun(struct answer *answer, const trawnosz_begun *begun)
+{
+    tell_their_verdict(answer, begun->verdict);
+    tell(answer, "taken place", begun->exchange_place);
+    tell(answer, "serial", begun->serial);
+    tell(answer, "length", begun->length);
+    tell_their_table(answer, &begun->state);
+}
+
+struct ind_begun both_begin_and_write(struct trial *t, struct ind_book *book, uint8_t *out, size_t room,
+                                      const struct ind_draft *draft)
 {
     struct answer a = {0}, b = {0};
-    trawnosz_exchanges table = their_table(book);
-    name_table(t, mode == IND_SEND ? "trawnosz_begin_send" : "trawnosz_begin_request", book);
-    struct ind_turn mine = ind_begin(book, mode);
-    tell_verdict(&a, mine.verdict);
-    tell(&a, "taken place", mine.place);
-    tell(&a, "serial", mine.serial);
-    tell_book(&a, book);
-    trawnosz_begun theirs = mode == IND_SEND ? trawnosz_begin_send(table) : trawnosz_begin_request(table);
-    tell_their_verdict(&b, theirs.verdict);
-    tell(&b, "taken place", theirs.exchange_place);
-    tell(&b, "serial", theirs.serial);
-    tell_their_table(&b, &theirs.state);
+    trawnosz_exchanges table = their_table(book), kept = their_table(book);
+    name_table(t, "trawnosz_begin_and_write", book);
+    name_draft(out, room, draft);
+    struct ind_begun mine = ind_begin_and_write(book, out, room, draft);
+    tell_begun(&a, &mine, book);
+    uint8_t *lent = lend(t, LENT_OUTPUT, out_before, room);
+    trawnosz_begun theirs = trawnosz_begin_and_write(table, lent, room, their_draft(draft), draft->unit_size);
+    tell_their_begun(&b, &theirs);
     agree(t, &a, &b);
+    check_lent(t, LENT_OUTPUT, "out", out);
+    if (!same_table(&table, &kept))
+        differ(t, "a table that was given by value was changed");
     return mine;
 }
 

@@ -64,8 +64,11 @@ void watch_signals(void);
 
 trawnosz_label their_label(const uint8_t label[6]);
 trawnosz_header their_header(const struct ind_packet *fields);
+trawnosz_draft their_draft(const struct ind_draft *mine);
 trawnosz_fields their_fields(const struct ind_object *object);
 trawnosz_exchanges their_table(const struct ind_book *book);
+bool same_table(const trawnosz_exchanges *one, const trawnosz_exchanges *other);
+bool same_book(const struct ind_book *one, const struct ind_book *other);
 void tell_verdict(struct answer *answer, struct ind_verdict verdict);
 void tell_their_verdict(struct answer *answer, trawnosz_verdict verdict);
 void agree_verdict(struct trial *t, struct ind_verdict mine, trawnosz_verdict theirs);
@@ -101,7 +104,8 @@ struct ind_received both_receive(struct trial *t, struct ind_hold *hold, const u
                                  size_t room);
 
 struct ind_verdict both_exchanges_fresh(struct trial *t, struct ind_book *book, uint8_t timeout, uint8_t limit);
-struct ind_turn both_begin(struct trial *t, struct ind_book *book, enum ind_mode mode);
+struct ind_begun both_begin_and_write(struct trial *t, struct ind_book *book, uint8_t *out, size_t room,
+                                      const struct ind_draft *draft);
 struct ind_turn both_reply(struct trial *t, struct ind_book *book, enum ind_told told, uint16_t serial);
 struct ind_turn both_take_packet(struct trial *t, struct ind_book *book, const uint8_t *packet, size_t size);
 struct ind_tick both_tick(struct trial *t, struct ind_book *book);
@@ -140,9 +144,27 @@ void seal(uint8_t *packet, size_t unit_size);
 size_t make_any_packet(struct trial *t, uint8_t *packet);
 void make_object(struct trial *t, struct ind_object *object, uint8_t kind);
 void make_fields(struct trial *t, struct ind_packet *fields);
+size_t choose_room(struct trial *t, size_t needed, size_t all);
 
 void spoil_unit(struct trial *t, uint8_t *unit, size_t *size);
 void spoil_packet(struct trial *t, uint8_t *packet, size_t *size);
+
+/* ---- make_exchange.c: exchange tables, and what is given to begin an exchange ---- */
+
+/* The output has room for an L of 2,000 and more, so that LENGTH is tried where nothing is wrong with the room. */
+struct made_begin {
+    uint8_t out[2100];
+    size_t room;
+    struct ind_draft draft;
+};
+
+void make_book(struct trial *t, struct ind_book *book);
+void make_book_with(struct trial *t, struct ind_book *book, size_t open);
+void spoil_book(struct trial *t, struct ind_book *book);
+void break_book(struct trial *t, struct ind_book *book);
+const struct made_type *make_type_under(struct trial *t, uint8_t command);
+void make_begin(struct trial *t, struct made_begin *made, const struct made_type *type);
+void spoil_begin(struct trial *t, struct made_begin *made);
 
 /* ---- segments.c: streams of line bytes ---- */
 
@@ -180,6 +202,9 @@ void try_replies(struct trial *t);
 void try_exchange_states(struct trial *t);
 void try_exchange_sequence(struct trial *t);
 void try_takes(struct trial *t);
+void try_begins(struct trial *t);
+void try_begin_orders(struct trial *t);
+void try_begin_traces(struct trial *t);
 void try_names(struct trial *t);
 void try_good_devices(struct trial *t);
 void try_spoiled_devices(struct trial *t);

@@ -51,6 +51,25 @@ static void write_nothing(struct trial *t)
     both_release(t, NULL, 0);
 }
 
+/* No output to begin in: ROOM, unless something is refused before it. */
+static void begin_nowhere(struct trial *t)
+{
+    struct ind_book book;
+    struct made_begin made;
+    make_book_with(t, &book, below(t, 16));
+    make_begin(t, &made, &made_types[below(t, TYPES)]);
+    if (both_begin_and_write(t, &book, NULL, 0, &made.draft).verdict.refusal != IND_ROOM)
+        differ(t, "a begin without an output is not ROOM");
+    made.draft.unit_size = below(t, 3);
+    made.draft.command = (uint8_t)below(t, 8);
+    if (both_begin_and_write(t, &book, NULL, 0, &made.draft).verdict.refusal != IND_ROOM)
+        differ(t, "a begin without an output is not ROOM");
+    made.draft.unit_size = between(t, 1025, 2000);
+    both_begin_and_write(t, &book, NULL, 0, &made.draft);
+    break_book(t, &book);
+    both_begin_and_write(t, &book, NULL, 0, &made.draft);
+}
+
 /* An empty piece on any hold, and no buffer. */
 static void receive_nothing(struct trial *t)
 {
@@ -72,5 +91,6 @@ void try_empties(struct trial *t)
     t->empty_is_null = true;
     read_nothing(t);
     write_nothing(t);
+    begin_nowhere(t);
     receive_nothing(t);
 }

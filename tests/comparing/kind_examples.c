@@ -5,6 +5,7 @@
 
 static const char confirm[] = "404005000100001E080F06180100000000000000000000000000035D2323";
 static const char state[] = "404006000100001E080F06180100000000000000000000000900021501010""01E080F0618D02323";
+static const char state_unit[] = "150101001E080F0618";
 
 static uint8_t digit(char c)
 {
@@ -123,24 +124,98 @@ static void try_receiver_examples(struct trial *t)
     received(t, &hold, "40", IND_MORE, 0, 1, 1, 1054);
 }
 
+/* A begin with example B's label and addresses, of a unit that stands in an output of zeros. */
+static struct ind_begun begin(struct trial *t, struct ind_book *book, uint8_t command, const char *unit, size_t length,
+                              size_t room)
+{
+    uint8_t out[64] = {0};
+    const struct ind_draft draft = {.label = {0, 30, 8, 15, 6, 24}, .source = {1}, .command = command, .unit_size = length};
+    from_hex(out + 27, unit);
+    return both_begin_and_write(t, book, out, room, &draft);
+}
+
+static struct ind_begun start_send(struct trial *t, struct ind_book *book)
+{
+    return begin(t, book, 2, state_unit, 9, 39);
+}
+
+static struct ind_begun start_request(struct trial *t, struct ind_book *book)
+{
+    return begin(t, book, 4, "3D010102", 4, 34);
+}
+
 /* Examples 6, 7 and 8, and a next serial that is itself open. */
 static void try_exchange_examples(struct trial *t)
 {
     struct ind_book book;
     both_exchanges_fresh(t, &book, 1, 0);
-    both_begin(t, &book, IND_SEND);
+    start_send(t, &book);
     expect(t, both_tick(t, &book).outcome[0] == IND_FAILED);
     both_exchanges_fresh(t, &book, 1, 1);
-    both_begin(t, &book, IND_REQUEST);
+    start_request(t, &book);
     expect(t, both_tick(t, &book).outcome[0] == IND_RESENT);
     expect(t, both_tick(t, &book).outcome[0] == IND_FAILED);
     book.next = 65535;
-    expect(t, both_begin(t, &book, IND_SEND).serial == 65535);
-    expect(t, both_begin(t, &book, IND_SEND).serial == 0);
+    expect(t, start_send(t, &book).serial == 65535);
+    expect(t, start_send(t, &book).serial == 0);
     book.next = 65535;
-    expect(t, both_begin(t, &book, IND_SEND).serial == 1 && book.next == 2);
+    expect(t, start_send(t, &book).serial == 1 && book.next == 2);
     expect_verdict(t, both_exchanges_fresh(t, &book, 11, 0), IND_SETTING, 0);
-    expect_verdict(t, both_begin(t, &book, IND_SEND).verdict, IND_STATE, 0);
+    expect_verdict(t, start_send(t, &book).verdict, IND_STATE, 0);
+}
+
+/* A begin that must be refused, the table being left as it was. */
+static void refused(struct trial *t, struct ind_book *book, uint8_t command, const char *unit, size_t length, size_t room,
+                    enum ind_refusal refusal)
+{
+    const struct ind_book before = *book;
+    struct ind_begun begun = begin(t, book, command, unit, length, room);
+    expect_verdict(t, begun.verdict, refusal, 0);
+    expect(t, begun.place == 0 && begun.serial == 0 && begun.packet_size == 0 && same_book(&before, book));
+}
+
+/* Begins that open nothing, and what a good one after them then opens. */
+static void try_begin_examples(struct trial *t)
+{
+    struct ind_book book;
+    both_exchanges_fresh(t, &book, 1, 0);
+    book.next = 65535;
+    refused(t, &book, 4, state_unit, 9, 39, IND_TYPE);
+    expect(t, start_send(t, &book).serial == 65535 && book.next == 0);
+    both_exchanges_fresh(t, &book, 1, 0);
+    refused(t, &book, 5, "010101020000001E080F0618", 12, 42, IND_COMMAND);
+    refused(t, &book, 3, "", 0, 30, IND_COMMAND);
+    refused(t, &book, 6, "", 0, 30, IND_COMMAND);
+    refused(t, &book, 5, state_unit, 9, 38, IND_ROOM);
+    refused(t, &book, 5, state_unit, 1025, 0, IND_LENGTH);
+    refused(t, &book, 2, state_unit, 9, 38, IND_ROOM);
+    struct ind_begun begun = start_request(t, &book);
+    expect(t, !begun.verdict.refusal && begun.place == 0 && begun.serial == 0 && begun.packet_size == 34);
+    expect(t, book.exchange[0].mode == IND_REQUEST && book.next == 1);
+    for (int i = 1; i < 16; i++)
+        expect(t, start_send(t, &book).place == (size_t)i && book.exchange[i].mode == IND_SEND);
+    refused(t, &book, 2, state_unit, 2000, 0, IND_FULL);
+    refused(t, &book, 9, "", 0, 0, IND_FULL);
+    book.exchange[3].age = 1;
+    refused(t, &book, 2, state_unit, 9, 39, IND_STATE);
+    refused(t, &book, 9, "", 2000, 0, IND_STATE);
+}
+
+/* Begun under serial 6, example B has its own bytes, and those behind it stay; a control of type 90 opens a send. */
+static void try_begun_bytes(struct trial *t)
+{
+    struct ind_book book;
+    uint8_t out[64], expected[64];
+    const struct ind_draft draft = {.label = {0, 30, 8, 15, 6, 24}, .source = {1}, .command = 2, .unit_size = 9};
+    memset(out, 0xEE, sizeof out);
+    memset(expected, 0xEE, sizeof expected);
+    from_hex(out + 27, state_unit);
+    from_hex(expected, state);
+    both_exchanges_fresh(t, &book, 1, 0);
+    book.next = 6;
+    expect(t, both_begin_and_write(t, &book, out, sizeof out, &draft).packet_size == 39);
+    expect(t, memcmp(out, expected, sizeof out) == 0 && book.exchange[0].mode == IND_SEND && book.exchange[0].serial == 6);
+    expect(t, begin(t, &book, 1, "5A01001E080F0618", 8, 38).place == 1 && book.exchange[1].mode == IND_SEND);
 }
 
 static void try_table_examples(struct trial *t)
@@ -184,7 +259,7 @@ static void try_take_examples(struct trial *t)
     size_t size = from_hex(packet, state);
     both_exchanges_fresh(t, &book, 10, 1);
     for (int i = 0; i < 7; i++)
-        both_begin(t, &book, IND_REQUEST);
+        start_request(t, &book);
     packet[26] = 5;
     packet[9] = 32;
     seal(packet, size - 30);
@@ -205,6 +280,8 @@ void try_examples(struct trial *t)
     try_largest_n(t);
     try_receiver_examples(t);
     try_exchange_examples(t);
+    try_begin_examples(t);
+    try_begun_bytes(t);
     try_take_examples(t);
     try_table_examples(t);
     try_reply_examples(t);

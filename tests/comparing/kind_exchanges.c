@@ -2,85 +2,19 @@
  * one table. */
 #include "comparing.h"
 
-#include <string.h>
-
-/* Serials that lie close together from a start on, so that the next one often is open; all are different. */
-static void open_places(struct trial *t, struct ind_book *book, size_t open)
-{
-    uint16_t serial = (uint16_t)(chance(t, 40) ? 65535 - below(t, 20) : draw(t));
-    book->next = (uint16_t)(serial + below(t, 3));
-    for (size_t i = 0; i < open; i++) {
-        size_t place = below(t, 16);
-        while (book->exchange[place].mode != 0)
-            place = (place + 1) % 16;
-        struct ind_exchange *one = &book->exchange[place];
-        one->serial = serial;
-        one->mode = (uint8_t)between(t, 1, 2);
-        one->resends = (uint8_t)below(t, book->limit + 1u);
-        one->age = (uint8_t)(chance(t, 40) ? book->timeout - 1u : below(t, book->timeout));
-        serial = (uint16_t)(serial + (chance(t, 70) ? 1 : between(t, 1, 300)));
-    }
-    if (chance(t, 20))
-        book->next = (uint16_t)draw(t);
-}
-
-static void make_book(struct trial *t, struct ind_book *book)
-{
-    memset(book, 0, sizeof *book);
-    book->timeout = (uint8_t)(chance(t, 30) ? 1 : between(t, 1, 10));
-    book->limit = (uint8_t)(chance(t, 30) ? 0 : below(t, 10));
-    open_places(t, book, chance(t, 25) ? 16 : chance(t, 25) ? 15 : below(t, 17));
-}
-
-/* Spoils a free place, or an open one where all are open. */
-static void spoil_place(struct trial *t, struct ind_book *book)
-{
-    struct ind_exchange *one = &book->exchange[below(t, 16)];
-    bool open = one->mode != 0;
-    switch (below(t, 5)) {
-    case 0:
-        one->age = (uint8_t)(open ? (chance(t, 60) ? book->timeout : between(t, book->timeout, 255)) : between(t, 1, 255));
-        break;
-    case 1:
-        one->resends = (uint8_t)(open ? (chance(t, 60) ? book->limit + 1u : between(t, book->limit + 1u, 255)) : 1);
-        break;
-    case 2:
-        one->mode = (uint8_t)(chance(t, 40) ? 3 : between(t, 3, 255));
-        break;
-    case 3:
-        one->serial = (uint16_t)(open ? one->serial : between(t, 1, 65535));
-        one->mode = open ? 0 : one->mode;
-        break;
-    default:
-        one->serial = book->exchange[below(t, 16)].serial;
-        one->mode = (uint8_t)between(t, 1, 2);
-    }
-}
-
-static void spoil_book(struct trial *t, struct ind_book *book)
-{
-    switch (below(t, 12)) {
-    case 0:
-        book->timeout = (uint8_t)(chance(t, 30) ? 0 : chance(t, 50) ? 11 : any_byte(t));
-        break;
-    case 1:
-        book->limit = (uint8_t)(chance(t, 60) ? 10 : any_byte(t));
-        break;
-    case 2:
-        book->timeout = 0;
-        book->limit = 0;
-        memset(book->exchange, 0, sizeof book->exchange);
-        break;
-    default:
-        spoil_place(t, book);
-    }
-}
-
 /* The serial of a place, one beside it, or any. */
 static uint16_t choose_serial(struct trial *t, const struct ind_book *book)
 {
     uint16_t serial = book->exchange[below(t, 16)].serial;
     return (uint16_t)(chance(t, 85) ? serial : chance(t, 60) ? serial + 1u : draw(t));
+}
+
+/* A good packet of the command, begun on a table. */
+static void begin_good(struct trial *t, struct ind_book *book, uint8_t command)
+{
+    struct made_begin made;
+    make_begin(t, &made, make_type_under(t, command));
+    both_begin_and_write(t, book, made.out, made.room, &made.draft);
 }
 
 /* Every call on one table, each on the table as it was. */
@@ -93,8 +27,9 @@ void try_exchange_states(struct trial *t)
     if (chance(t, 50))
         spoil_book(t, &book);
     both_tick(t, (copy = book, &copy));
-    both_begin(t, (copy = book, &copy), IND_SEND);
-    both_begin(t, (copy = book, &copy), IND_REQUEST);
+    begin_good(t, (copy = book, &copy), IND_COMMAND_CONTROL);
+    begin_good(t, (copy = book, &copy), IND_COMMAND_SEND);
+    begin_good(t, (copy = book, &copy), IND_COMMAND_REQUEST);
     for (unsigned told = 0; told < 4; told++) {
         both_reply(t, (copy = book, &copy), told, choose_serial(t, &book));
         both_reply(t, (copy = book, &copy), told, choose_serial(t, &book));
@@ -136,11 +71,21 @@ void try_takes(struct trial *t)
     }
 }
 
+/* A begin of a sequence: refused ones stand among good ones, so that a serial or place that they used up would be seen. */
+static void begin_any(struct trial *t, struct ind_book *book)
+{
+    struct made_begin made;
+    make_begin(t, &made, make_type_under(t, chance(t, 50) ? IND_COMMAND_REQUEST : (uint8_t)between(t, 1, 2)));
+    if (chance(t, 30))
+        spoil_begin(t, &made);
+    both_begin_and_write(t, book, made.out, made.room, &made.draft);
+}
+
 /* One call of a sequence: begins and ticks in such shares that the table is full now and empty then. */
 static void one_call(struct trial *t, struct ind_book *book, unsigned begins)
 {
     if (chance(t, begins))
-        both_begin(t, book, chance(t, 50) ? IND_SEND : IND_REQUEST);
+        begin_any(t, book);
     else if (chance(t, 30))
         both_tick(t, book);
     else

@@ -1,4 +1,4 @@
-/* Round trips: an accepted packet written again from its fields, and a written packet read back. */
+/* Round trips: an accepted packet written again from its fields, and a written or begun packet read back. */
 #include "comparing.h"
 
 #include <string.h>
@@ -36,6 +36,14 @@ static void read_and_write(struct trial *t, const uint8_t *packet, size_t size)
         differ_bytes(t, "an accepted packet written again", packet, again, size);
 }
 
+static bool same_fields(const struct ind_packet *back, const struct ind_packet *fields)
+{
+    return !back->verdict.refusal && back->serial == fields->serial && back->user_version == fields->user_version
+        && memcmp(back->label, fields->label, 6) == 0 && memcmp(back->source, fields->source, 6) == 0
+        && memcmp(back->destination, fields->destination, 6) == 0 && back->command == fields->command
+        && back->unit_size == fields->unit_size;
+}
+
 /* "a packet we write reads back as the same fields." */
 static void write_and_read(struct trial *t, const uint8_t *unit, size_t unit_size, uint8_t command)
 {
@@ -48,11 +56,42 @@ static void write_and_read(struct trial *t, const uint8_t *unit, size_t unit_siz
     memcpy(out + 27, unit, unit_size);
     both_write_packet(t, out, 30 + unit_size, &fields);
     struct ind_packet back = both_read_packet(t, out, 30 + unit_size);
-    if (back.verdict.refusal || back.serial != fields.serial || back.user_version != fields.user_version
-        || memcmp(back.label, fields.label, 6) != 0 || memcmp(back.source, fields.source, 6) != 0
-        || memcmp(back.destination, fields.destination, 6) != 0 || back.command != command || back.unit_size != unit_size
-        || memcmp(out + 27, unit, unit_size) != 0)
+    if (!same_fields(&back, &fields) || memcmp(out + 27, unit, unit_size) != 0)
         differ(t, "a written packet does not read back as its fields");
+}
+
+/* What a good begin must have written: the draft's fields under the serial that it gave. */
+static struct ind_packet fields_of(const struct ind_draft *draft, uint16_t serial)
+{
+    struct ind_packet fields = {
+        .serial = serial, .user_version = draft->user_version, .command = draft->command, .unit_size = draft->unit_size
+    };
+    memcpy(fields.label, draft->label, 6);
+    memcpy(fields.source, draft->source, 6);
+    memcpy(fields.destination, draft->destination, 6);
+    return fields;
+}
+
+/* A begun packet is judged good and reads back; its confirm or answer then finds the place that was opened for it. */
+static void begin_and_read(struct trial *t)
+{
+    struct ind_book book;
+    struct made_begin made;
+    uint8_t unit[MADE_MOST];
+    make_book_with(t, &book, below(t, 16));
+    make_begin(t, &made, &made_types[below(t, TYPES)]);
+    memcpy(unit, made.out + 27, made.draft.unit_size);
+    struct ind_begun begun = both_begin_and_write(t, &book, made.out, made.room, &made.draft);
+    struct ind_packet fields = fields_of(&made.draft, begun.serial);
+    struct ind_verdict verdict = both_judge_packet(t, made.out, begun.packet_size);
+    struct ind_packet back = both_read_packet(t, made.out, begun.packet_size);
+    if (begun.verdict.refusal || verdict.refusal || !same_fields(&back, &fields)
+        || memcmp(made.out + 27, unit, fields.unit_size) != 0)
+        differ(t, "a begun packet does not read back as its draft under its serial");
+    bool request = fields.command == IND_COMMAND_REQUEST;
+    struct ind_turn turn = both_reply(t, &book, request ? IND_ANSWER_CAME : IND_CONFIRM_CAME, begun.serial);
+    if (turn.place != begun.place || turn.outcome != (request ? IND_ANSWERED : IND_CONFIRMED))
+        differ(t, "the reply to a begun packet does not fit its exchange");
 }
 
 void try_round_trip(struct trial *t)
@@ -61,4 +100,5 @@ void try_round_trip(struct trial *t)
     size_t size = make_any_packet(t, packet);
     read_and_write(t, packet, size);
     write_and_read(t, packet + 27, size - 30, packet[26]);
+    begin_and_read(t);
 }

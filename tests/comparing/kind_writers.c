@@ -72,15 +72,6 @@ static size_t choose_length(struct trial *t, size_t size)
     return chance(t, 50) ? below(t, 1101) : lengths[below(t, 11)];
 }
 
-/* A room around what is needed, which itself may be too large to have. */
-static size_t choose_room(struct trial *t, size_t needed, size_t most)
-{
-    if (chance(t, 8) || needed > most)
-        return below(t, most + 1);
-    size_t room = needed + 3 - below(t, chance(t, 50) ? 4 : 5);
-    return room < most ? room : most;
-}
-
 void try_packet_object_writer(struct trial *t)
 {
     uint8_t out[MADE_MOST + 27];

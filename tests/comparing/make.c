@@ -154,3 +154,12 @@ void make_fields(struct trial *t, struct ind_packet *fields)
     fill(t, fields->source, 6);
     fill(t, fields->destination, 6);
 }
+
+/* A room around what is needed, which itself may be too large to have. */
+size_t choose_room(struct trial *t, size_t needed, size_t all)
+{
+    if (chance(t, 8) || needed > all)
+        return below(t, all + 1);
+    size_t room = needed + 3 - below(t, chance(t, 50) ? 4 : 5);
+    return room < all ? room : all;
+}

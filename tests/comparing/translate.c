@@ -22,6 +22,14 @@ trawnosz_header their_header(const struct ind_packet *fields)
     return header;
 }
 
+trawnosz_draft their_draft(const struct ind_draft *mine)
+{
+    trawnosz_draft draft = {.version = mine->user_version, .label = their_label(mine->label), .command = mine->command};
+    memcpy(draft.source, mine->source, 6);
+    memcpy(draft.destination, mine->destination, 6);
+    return draft;
+}
+
 trawnosz_fields their_fields(const struct ind_object *object)
 {
     const uint32_t *number = object->number;
@@ -55,6 +63,23 @@ trawnosz_exchanges their_table(const struct ind_book *book)
         table.places[i].age = book->exchange[i].age;
     }
     return table;
+}
+
+/* Member by member, since the bytes between them may be anything. */
+bool same_table(const trawnosz_exchanges *one, const trawnosz_exchanges *other)
+{
+    bool same = one->next == other->next && one->timeout == other->timeout && one->resends == other->resends;
+    for (int i = 0; i < 16; i++) {
+        const trawnosz_exchange *a = &one->places[i], *b = &other->places[i];
+        same = same && a->serial == b->serial && a->mode == b->mode && a->resends == b->resends && a->age == b->age;
+    }
+    return same;
+}
+
+bool same_book(const struct ind_book *one, const struct ind_book *other)
+{
+    trawnosz_exchanges a = their_table(one), b = their_table(other);
+    return same_table(&a, &b);
 }
 
 void tell_verdict(struct answer *answer, struct ind_verdict verdict)

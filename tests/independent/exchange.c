@@ -67,25 +67,66 @@ static size_t lowest_free(const struct ind_book *book)
     return place;
 }
 
-/* "the first serial, from the next one upward and past 65,535 to 0, that is not open; the one after it is then next". */
-struct ind_turn ind_begin(struct ind_book *book, enum ind_mode mode)
+/* "the first serial, from the next one upward and past 65,535 to 0, that is not open". */
+static uint16_t first_not_open(const struct ind_book *book)
 {
-    struct ind_turn turn = {ind_good(), 0, 0, IND_NOTHING};
-    size_t place = lowest_free(book);
-    if (!book_sound(book))
-        turn.verdict = ind_refuse(IND_STATE);
-    else if (place == IND_PLACES)
-        turn.verdict = ind_refuse(IND_FULL);
-    if (turn.verdict.refusal)
-        return turn;
     uint16_t serial = book->next;
     while (open_at(book, serial) < IND_PLACES)
         serial++;
-    book->exchange[place] = (struct ind_exchange){serial, (uint8_t)mode, 0, 0};
+    return serial;
+}
+
+/* "Commands 1 and 2 open a send, 4 a request." */
+static enum ind_mode opened_by(uint8_t command)
+{
+    switch (command) {
+    case IND_COMMAND_CONTROL:
+    case IND_COMMAND_SEND:
+        return IND_SEND;
+    case IND_COMMAND_REQUEST:
+        return IND_REQUEST;
+    default:
+        return IND_FREE;
+    }
+}
+
+/* "then the packet writer's; COMMAND also for 3, 5, 6": a command that opens nothing is given to the writer as 0, so that
+ * it is refused where COMMAND stands in the writer's own order. */
+static struct ind_verdict write_under(uint16_t serial, uint8_t *out, size_t room, const struct ind_draft *draft)
+{
+    struct ind_packet fields;
+    memset(&fields, 0, sizeof fields);
+    fields.serial = serial;
+    fields.user_version = draft->user_version;
+    memcpy(fields.label, draft->label, 6);
+    memcpy(fields.source, draft->source, 6);
+    memcpy(fields.destination, draft->destination, 6);
+    fields.command = opened_by(draft->command) == IND_FREE ? 0 : draft->command;
+    fields.unit_size = draft->unit_size;
+    return ind_write_packet(out, room, &fields);
+}
+
+/* "it writes the packet with the serial it would give, and only then opens the place": "the lowest free place", and "the
+ * one after it is then next". "Refusals: STATE, FULL, then the packet writer's". */
+struct ind_begun ind_begin_and_write(struct ind_book *book, uint8_t *out, size_t room, const struct ind_draft *draft)
+{
+    struct ind_begun begun = {ind_good(), 0, 0, 0};
+    size_t place = lowest_free(book);
+    uint16_t serial = first_not_open(book);
+    if (!book_sound(book))
+        begun.verdict = ind_refuse(IND_STATE);
+    else if (place == IND_PLACES)
+        begun.verdict = ind_refuse(IND_FULL);
+    else
+        begun.verdict = write_under(serial, out, room, draft);
+    if (begun.verdict.refusal)
+        return begun;
+    book->exchange[place] = (struct ind_exchange){serial, (uint8_t)opened_by(draft->command), 0, 0};
     book->next = (uint16_t)(serial + 1);
-    turn.place = place;
-    turn.serial = serial;
-    return turn;
+    begun.place = place;
+    begun.serial = serial;
+    begun.packet_size = IND_FRAME_BYTES + draft->unit_size;
+    return begun;
 }
 
 /* "with fewer than R resends it is resent, one resend more and age 0, else it has failed and is freed". */
@@ -124,7 +165,7 @@ static enum ind_outcome apply(enum ind_told told, struct ind_exchange *one, uint
 
 struct ind_turn ind_hear(struct ind_book *book, enum ind_told told, uint16_t serial)
 {
-    struct ind_turn turn = {ind_good(), 0, 0, IND_NOTHING};
+    struct ind_turn turn = {ind_good(), 0, IND_NOTHING};
     size_t place = open_at(book, serial);
     if (!book_sound(book))
         turn.verdict = ind_refuse(IND_STATE);
@@ -141,7 +182,7 @@ struct ind_turn ind_hear(struct ind_book *book, enum ind_told told, uint16_t ser
  * refused at VERSION or later)" one under the serial that its bytes have; all else is told as the judge judges it. */
 struct ind_turn ind_take(struct ind_book *book, const uint8_t *packet, size_t size)
 {
-    struct ind_turn turn = {ind_judge_packet(packet, size), 0, 0, IND_NOTHING};
+    struct ind_turn turn = {ind_judge_packet(packet, size), 0, IND_NOTHING};
     bool good = turn.verdict.refusal == IND_GOOD;
     if (ind_before_version(turn.verdict.refusal))
         return turn;

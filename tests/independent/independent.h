@@ -1,4 +1,5 @@
-/* The independent program: the rules of document 01, written from that paper alone, to compare the library with. */
+/* The independent program: the rules of document 01 and of document 02's request Q-8, written from those papers alone, to
+ * compare the library with. */
 #ifndef INDEPENDENT_H
 #define INDEPENDENT_H
 
@@ -174,11 +175,28 @@ struct ind_book {
     uint8_t limit;
 };
 
-/* What a call on the book answers beside the changed book. */
-struct ind_turn {
+/* What a packet that begins an exchange needs, beside the serial, which the book gives. */
+struct ind_draft {
+    uint8_t user_version;
+    uint8_t label[6];
+    uint8_t source[6];
+    uint8_t destination[6];
+    uint8_t command;
+    size_t unit_size;
+};
+
+/* What a begin answers beside the changed book and the packet that stands in the output. */
+struct ind_begun {
     struct ind_verdict verdict;
     size_t place;
     uint16_t serial;
+    size_t packet_size;
+};
+
+/* What a reply is answered by beside the changed book. */
+struct ind_turn {
+    struct ind_verdict verdict;
+    size_t place;
     enum ind_outcome outcome;
 };
 
@@ -189,7 +207,7 @@ struct ind_tick {
 };
 
 struct ind_verdict ind_make_book(struct ind_book *book, uint8_t timeout, uint8_t limit);
-struct ind_turn ind_begin(struct ind_book *book, enum ind_mode mode);
+struct ind_begun ind_begin_and_write(struct ind_book *book, uint8_t *out, size_t room, const struct ind_draft *draft);
 struct ind_turn ind_hear(struct ind_book *book, enum ind_told told, uint16_t serial);
 struct ind_turn ind_take(struct ind_book *book, const uint8_t *packet, size_t size);
 struct ind_tick ind_pass_time(struct ind_book *book);

@@ -1,31 +1,37 @@
--- Document 01, "Checked examples": A, B and 1 to 10 as one table under one theorem, each answer in numbers under their names. Assumes nothing.
+-- Document 01, "Checked examples": A, B and 1 to 10, and the cases of document 02's requests that landed, as one table under one theorem, each answer
+-- in numbers under their names. Assumes nothing.
 use Prim.Native.Nat.{ℕ, zero, suc}
 use Prim.Native.String.{String}
 use mathlib.Core.List.{List, [], _∷_, _++_, map}
 use mathlib.Core.Path.{_≡_, refl}
 use lib.ListN.{length, set, take, drop, replicate}
 use Rattle.exchange.specs.declared.Exchanges.{Exchanges}
-use Rattle.exchange.specs.declared.Told.the-variants.{Send}
-use Rattle.exchange.specs.Table.{legal, made, found, begun, ticking}
+use Rattle.exchange.specs.Begins.{modeOf, begunVerdict, begun, begunOutput}
+use Rattle.exchange.specs.Calls.{Asked, begunBy}
+use Rattle.exchange.specs.Table.{legal, made, found, ticking}
+use Rattle.exchange.proofs.Examples.{draft, asked}
 use Rattle.frame.specs.Frame.{room, unitLength, sumOf, ended, summed}
 use Rattle.kinds.specs.Table.{table, rowsOf, rows, findRow}
 use Rattle.label.specs.Times.{labelBytes, judged, inRanges}
 use Rattle.lines.specs.Decimal.{decimalIn, decimal}
 use Rattle.lines.specs.Events.{line, shortLine, packetLine, eventLine, lastLine}
 use Rattle.naming.specs.Names.{ascii, lettersIn, letters}
-use Rattle.octets.specs.Numbers.{lowFirst}
-use Rattle.octets.specs.Parts.{part}
+use Rattle.octets.specs.Numbers.{lowFirst, bytesOf}
+use Rattle.octets.specs.Parts.{part, putAt}
 use Rattle.octets.specs.Searches.{firstFit, anyFits, every}
 use Rattle.octets.specs.Sums.{total}
 use Rattle.octets.proofs.Examples.{A}
 use Rattle.packet.specs.declared.Header.{Header}
-use Rattle.packet.specs.Frames.{judgedContent, judgedPacket, unitPlace}
+use Rattle.output.specs.Packets.{headBytes, packetBytes}
+use Rattle.output.specs.Writing.{packetVerdict, writtenPacket}
+use Rattle.packet.specs.Frames.{unitOf, judgedContent, judgedPacket, unitPlace}
 use Rattle.packet.specs.Headers.{openedPacket}
 use Rattle.packet.proofs.Examples.{B}
-use Rattle.place.specs.Rules.{isOpen, isZero, holds, keeps}
+use Rattle.place.specs.declared.Place.{Place}
+use Rattle.place.specs.Rules.{FREE, SEND, REQUEST, opened as place, isOpen, isZero, holds, keeps}
 use Rattle.place.specs.Steps.{NOTHING, RESENT, FAILED, denied, ticked}
 use Rattle.places.specs.declared.Report.{Report}
-use Rattle.places.specs.Rows.{lowestFree, isOpenAs, twice, allKeep, serialFor, swept}
+use Rattle.places.specs.Rows.{lowestFree, isOpenAs, twice, allKeep, areSound, serialFor, swept}
 use Rattle.reading.specs.Values.{MORE, PACKET, told, packetOf}
 use Rattle.reading.specs.Standing.{whenThere, judgedFrame, started, stands}
 use Rattle.reading.specs.Finding.{onward, more, noise, hit, found as foundIn, first, Heard, Reading, readOn, reading}
@@ -37,7 +43,7 @@ use Rattle.unit.specs.Objects.{textSize, endOf, walk, timely}
 use Rattle.unit.specs.Units.{judgedUnit, judgedUnder}
 use Rattle.verdict.specs.declared.Verdict.{Verdict}
 use Rattle.verdict.specs.Orders.{inOrder, refusal, good, partBy, partIn}
-use Rattle.verdict.specs.Refusals.{LENGTH, END, SUM, TIME, COUNT}
+use Rattle.verdict.specs.Refusals.{STATE, ROOM, LENGTH, END, SUM, COMMAND, TIME, TYPE, COUNT, FULL}
 
 -- a verdict's number and place
 abbrev of : Verdict → List ℕ
@@ -106,9 +112,48 @@ repeated (suc n) o = o ++ repeated n o
 abbrev operations : ℕ → List ℕ
 operations n = 24 ∷ n ∷ repeated n (1 ∷ 2 ∷ 0x00 ∷ 0x1E ∷ 0x08 ∷ 0x0F ∷ 0x06 ∷ 0x18 ∷ [])
 
+-- what a beginning answers: the verdict, then place, length, serial and the serial that is next
+abbrev begins : Exchanges → Asked → List ℕ
+begins x a = let b = begunBy x a in of (b .verdict) ++ b .place ∷ b .length ∷ b .serial ∷ b .state .next ∷ []
+
+abbrev refused : ℕ → ℕ → List ℕ
+refused n next = of (refusal n 0) ++ 0 ∷ 0 ∷ 0 ∷ next ∷ []
+
+-- the unit of B under its command, and a table with a serial next
+abbrev send : Asked
+send = asked 2 (unitOf B)
+
+abbrev fromSerial : ℕ → Exchanges
+fromSerial n = let x : Exchanges = made 1 0 .state in record { places = x .places; next = n; timeout = 1; resends = 0 }
+
+abbrev full : Exchanges
+full =
+    record {
+      places = map (λ (s : ℕ). place s SEND) (0 ∷ 1 ∷ 2 ∷ 3 ∷ 4 ∷ 5 ∷ 6 ∷ 7 ∷ 8 ∷ 9 ∷ 10 ∷ 11 ∷ 12 ∷ 13 ∷ 14 ∷ 15 ∷ []);
+      next = 16;
+      timeout = 1;
+      resends = 0;
+    }
+
+-- the unit of command 2 under which type 90 is TYPE; L 2,000 and no room; a good unit of type 1; an output of 38 bytes for a unit of 9
+abbrev clock : Asked
+clock = asked 2 (0x5A ∷ 0x01 ∷ 0x00 ∷ 0x1E ∷ 0x08 ∷ 0x0F ∷ 0x06 ∷ 0x18 ∷ [])
+
+abbrev long : ℕ → Asked
+long c = record { out = []; draft = draft c; size = 2000 }
+
+abbrev states : Asked
+states = asked 5 (0x01 ∷ 0x01 ∷ 0x01 ∷ 0x02 ∷ 0x00 ∷ 0x00 ∷ 0x00 ∷ 0x1E ∷ 0x08 ∷ 0x0F ∷ 0x06 ∷ 0x18 ∷ [])
+
+abbrev short : Asked
+short = record { out = take 38 (send .out); draft = send .draft; size = 9 }
+
+abbrev request : Asked
+request = asked 4 (0x3D ∷ 0x01 ∷ 0x01 ∷ 0x02 ∷ [])
+
 -- a table of these T and R after a beginning, and what the next tick tells of its sixteen places
 abbrev opened : ℕ → ℕ → Exchanges
-opened t r = begun (made t r .state) Send .state
+opened t r = begunBy (made t r .state) send .state
 
 abbrev outcomes : Exchanges → List ℕ
 outcomes x = map (λ (r : Report). r .outcome) (ticking x .reports)
@@ -116,14 +161,10 @@ outcomes x = map (λ (r : Report). r .outcome) (ticking x .reports)
 abbrev ofTheFirst : ℕ → List ℕ
 ofTheFirst outcome = outcome ∷ replicate 15 NOTHING
 
--- the serials of two beginnings
-abbrev serialsFrom : ℕ → List ℕ
-serialsFrom n =
-    let x : Exchanges = made 1 0 .state in
-    let y = begun (record { places = x .places; next = n; timeout = 1; resends = 0 }) Send in
-    y .serial ∷ begun (y .state) Send .serial ∷ []
+abbrev modes : Exchanges → List ℕ
+modes x = map (λ (p : Place). p .mode) (x .places)
 
--- what is said, and what document 01 says
+-- what is said, and what the documents say
 abbrev pub checked : List (List ℕ × List ℕ)
 checked =
     -- "A: .., a good confirm. Sum 93."
@@ -159,7 +200,8 @@ checked =
     ∷ (outcomes (opened 1 1), ofTheFirst RESENT)
     ∷ (outcomes (ticking (opened 1 1) .state), ofTheFirst FAILED)
     -- "8. Next serial 65,535 gives 65,535, then 0."
-    ∷ (serialsFrom 65535, 65535 ∷ 0 ∷ [])
+    ∷ (begins (fromSerial 65535) send, of good ++ 0 ∷ 39 ∷ 65535 ∷ 0 ∷ [])
+    ∷ (begins (begunBy (fromSerial 65535) send .state) send, of good ++ 1 ∷ 39 ∷ 0 ∷ 1 ∷ [])
     -- "9. A lone 64 is held."
     ∷ (shown (afresh (64 ∷ [])), shows MORE 0 0 1 0 (64 ∷ []))
     -- "10. `00 40` then A lists:" "1 END", "0 PACKET 30 5 3 OK", "held 0 skipped 0"
@@ -170,12 +212,28 @@ checked =
     ∷ (shown call-1, shows END 0 1 31 0 (take 29 A))
     ∷ (shown call-2, shows PACKET 30 0 1 0 [])
     ∷ (shown call-3, shows MORE 0 0 0 0 [])
+    -- Document 02, Q-8: B begun where 6 is next is B
+    ∷ (begins (fromSerial 6) send, of good ++ 0 ∷ 39 ∷ 6 ∷ 7 ∷ [])
+    ∷ (begunOutput rows (fromSerial 6) (send .out) (send .draft) (send .size), B)
+    -- next 65,535 and a write that is refused by TYPE, then a good one
+    ∷ (begins (fromSerial 65535) clock, refused TYPE 65535)
+    ∷ (begins (begunBy (fromSerial 65535) clock .state) send, of good ++ 0 ∷ 39 ∷ 65535 ∷ 0 ∷ [])
+    -- STATE, FULL, then LENGTH, ROOM, COMMAND
+    ∷ (begins (made 0 0 .state) (long 9), refused STATE 0)
+    ∷ (begins full (long 2), refused FULL 16)
+    ∷ (begins (fromSerial 6) (long 5), refused LENGTH 6)
+    ∷ (begins (fromSerial 6) short, refused ROOM 6)
+    ∷ (modes (begunBy (fromSerial 6) short .state), replicate 16 FREE)
+    ∷ (begins (fromSerial 6) states, refused COMMAND 6)
+    -- a request is open
+    ∷ (begins (fromSerial 6) request, of good ++ 0 ∷ 34 ∷ 6 ∷ 7 ∷ [])
+    ∷ (modes (begunBy (fromSerial 6) request .state), REQUEST ∷ replicate 15 FREE)
     ∷ []
 
 pub checked-so : map (λ (e : List ℕ × List ℕ). e .0) checked ≡ map (λ (e : List ℕ × List ℕ). e .1) checked
 unfolding openedPacket unitPlace partBy judgedPacket judgedContent judgedUnder judgedUnit inOrder rowsOf table findRow textSize endOf walk timely judged
     inRanges firstFit anyFits lowFirst part total called answerBy sound every padTo first foundIn more noise hit onward stands reading readOn
-    started judgedFrame summed ended unitLength whenThere room told packetOf made found begun ticking legal lowestFree isOpenAs
-    twice allKeep serialFor swept isOpen isZero holds keeps denied ticked
+    started judgedFrame summed ended unitLength whenThere room told packetOf made found begun begunVerdict begunOutput modeOf packetVerdict writtenPacket
+    packetBytes headBytes bytesOf putAt ticking legal lowestFree isOpenAs twice allKeep areSound serialFor swept isOpen isZero holds keeps denied ticked
     eventLine packetLine shortLine lastLine line decimal decimalIn letters lettersIn
 checked-so = refl

@@ -10,16 +10,16 @@ use denote.Ref.{RefT, now}
 use borrow.Author.Tests.{lt-leb, leb-true}
 use lib.ListN.{length, take, drop, replicate, take-append-drop}
 use Rattle.exchange.specs.declared.Exchanges.{Exchanges}
-use Rattle.exchange.specs.Calls.{Call, verdictOf, after}
+use Rattle.exchange.specs.Begins.{unbegun}
+use Rattle.exchange.specs.Calls.{Asked, begunBy, Call, verdictOf, after}
 use Rattle.exchange.specs.declared.Begun.{Begun}
+use Rattle.exchange.specs.declared.Draft.{Draft}
 use Rattle.exchange.specs.declared.Made.{Made}
 use Rattle.exchange.specs.declared.Replied.{Replied}
 use Rattle.exchange.specs.declared.Ticked.{Ticked}
-use Rattle.exchange.specs.declared.Told.{Told}
-use Rattle.exchange.specs.declared.Told.the-variants.{Send, Request}
-use Rattle.exchange.specs.Table.{blank, made, begun}
+use Rattle.exchange.specs.Table.{blank, made}
 use Rattle.exchange.specs.Table as exchanges
-use Rattle.exchange.proofs.Changes.{refused-same, begin-refused, reply-refused, tick-refused}
+use Rattle.exchange.proofs.Changes.{refused-same, begin-refused, begin-unwritten, reply-refused, tick-refused}
 use Rattle.fields.specs.declared.Fields.{Fields}
 use Rattle.frame.specs.Frame.{room}
 use Rattle.kinds.specs.Table.{table, rows}
@@ -53,8 +53,7 @@ use Rattle.taking.proofs.Promises.{taken-kept}
 use Rattle.trawnosz.specs.declared.AnswerC.{AnswerC}
 use Rattle.trawnosz.specs.declared.ServedC.{ServedC}
 use Rattle.trawnosz.proofs.trawnosz_exchanges_fresh.Reads as exchanges-fresh
-use Rattle.trawnosz.proofs.trawnosz_begin_send.Reads as begin-send
-use Rattle.trawnosz.proofs.trawnosz_begin_request.Reads as begin-request
+use Rattle.trawnosz.proofs.trawnosz_begin_and_write.Reads as begin-and-write
 use Rattle.trawnosz.proofs.trawnosz_reply_confirm.Reads as reply-confirm
 use Rattle.trawnosz.proofs.trawnosz_reply_answer.Reads as reply-answer
 use Rattle.trawnosz.proofs.trawnosz_reply_deny.Reads as reply-deny
@@ -219,20 +218,14 @@ pub refused-exchanges-fresh : (t m : ℕ) (r : Made) → exchanges-fresh.Post tt
     → isGood (r .verdict) ≡ false → r .state ≡ blank 0 0
 refused-exchanges-fresh t m r p = subst (λ (b : Made). isGood (b .verdict) ≡ false → b .state ≡ blank 0 0) (sym p) (not-made t m)
 
--- trawnosz_begin_send and trawnosz_begin_request: with the table that was given, zero for all else
-abbrev pub noBeginning : Exchanges → Verdict → Begun
-noBeginning x v = record { verdict = v; place = 0; serial = 0; state = x }
-
-not-begun : (x : Exchanges) (m : Told) (r : Begun) → r ≡ begun x m → isGood (r .verdict) ≡ false → r ≡ noBeginning x (r .verdict)
-not-begun x m r p = subst (λ (b : Begun). isGood (b .verdict) ≡ false → b ≡ noBeginning x (b .verdict)) (sym p) (begin-refused x m)
-
-pub refused-begin-send : (x : Exchanges) (r : Begun) → begin-send.Post tt (x, tt) r (x, tt)
-    → isGood (r .verdict) ≡ false → r ≡ noBeginning x (r .verdict)
-refused-begin-send x r p = not-begun x Send r p
-
-pub refused-begin-request : (x : Exchanges) (r : Begun) → begin-request.Post tt (x, tt) r (x, tt)
-    → isGood (r .verdict) ≡ false → r ≡ noBeginning x (r .verdict)
-refused-begin-request x r p = not-begun x Request r p
+-- trawnosz_begin_and_write: with the table that was given, zero for all else, and nothing written
+pub refused-begin-and-write : (κs : _) (x : Exchanges) (out o : RefT (List ℕ)) (d : Draft) (l : ℕ) (r : Begun)
+    → begin-and-write.Post κs (x, (out, (d, (l, tt)))) r (x, (o, (d, (l, tt))))
+    → isGood (r .verdict) ≡ false → (r ≡ unbegun x (r .verdict)) × (now o ≡ now out)
+refused-begin-and-write κs x out o d l r p e =
+    let a : Asked = record { out = now out; draft = d; size = l } in
+    let no : isGood (begunBy x a .verdict) ≡ false = ap (λ (b : Begun). isGood (b .verdict)) (sym (p .0)) ∙ e in
+    (p .0 ∙ begin-refused x a no ∙ ap (λ (b : Begun). unbegun x (b .verdict)) (sym (p .0)), p .1 ∙ begin-unwritten x a no)
 
 -- trawnosz_reply_confirm, trawnosz_reply_answer, trawnosz_reply_deny and trawnosz_reply_bad_answer
 abbrev pub noReply : Exchanges → Verdict → Replied

@@ -5,27 +5,36 @@ use Prim.Native.Nat.{ℕ, _+_, _≤_, _<_}
 use mathlib.Core.Bool.{true, false, _&&_}
 use mathlib.Core.List.{List, []}
 use mathlib.Core.Logic.{_↔_}
-use mathlib.Core.Path.{_≡_, refl, ap, subst⁻¹}
+use mathlib.Core.Path.{_≡_, refl, ap, subst⁻¹, _∙_}
+use denote.Laws.{Is}
+use mir.Val.{Val}
 use borrow.Author.Tests.{le-leb}
 use lib.Dec.{eqb}
-use lib.ListN.{getD}
+use lib.ListN.{getD, take, drop}
 use Rattle.octets.specs.Searches.{firstFit}
+use Rattle.exchange.specs.declared.Begun.{Begun}
+use Rattle.exchange.specs.declared.Draft.{Draft}
 use Rattle.exchange.specs.declared.Exchanges.{Exchanges}
-use Rattle.exchange.specs.declared.Told.{Told}
-use Rattle.exchange.specs.Calls.{Call, tick, reply, verdictOf, after, run, Sound}
+use Rattle.exchange.specs.Before.{Left, inTwo}
+use Rattle.exchange.specs.Begins.{headed, modeOf, draftVerdict, begunVerdict, unbegun, begunOutput}
+use Rattle.exchange.specs.Calls.{Asked, begunBy, Call, tick, reply, verdictOf, after, run, Sound}
 use Rattle.exchange.specs.Histories.{opens, toldOf, stepBy, denies, Seen, history, sends, since, count}
-use Rattle.exchange.specs.Table.{inRange, legal, blank, made, placed, modeOf, begun, answered, ticking}
+use Rattle.exchange.specs.Table.{inRange, legal, blank, made, found, placed, entered, answered, ticking}
+use Rattle.exchange.proofs.Draft.{the-row}
 use Rattle.exchange.proofs.Answers.{made-refused, made-good}
-use Rattle.exchange.proofs.Changes.{given-unopened, given-first, given-next, begun-inside, taken-free, taken-lowest, begin-others}
+use Rattle.exchange.proofs.Before.{others-refused, same-verdict, same-output, same-written, same-unfound, refused-differs}
+use Rattle.exchange.proofs.Changes.{begin-refused, taken-so, begun-found, given-unopened, given-first, given-next, begun-inside, taken-free, taken-lowest, begin-others}
 use Rattle.exchange.proofs.Changes.{reply-rest, tick-rest, tick-tells, settings-made}
 use Rattle.exchange.proofs.Denials.{resent-when, failed-when, resent-place, failed-place, tick-silent}
 use Rattle.exchange.proofs.Histories.{accounted}
 use Rattle.exchange.proofs.Kept.{run-sound, never-broken, never-STATE}
 use Rattle.exchange.proofs.Steps.{each-step, reply-fits, reply-passes, taken-opened}
-use Rattle.exchange.proofs.Taking.{broken-refused, begin-taken, begin-full, reply-taken, reply-stray, tick-taken}
+use Rattle.exchange.proofs.Written.{Addressed, draft-addressed, begun-judged, begun-header, begun-size, begun-unit, begun-beyond}
+use Rattle.exchange.proofs.Taking.{broken-refused, begin-free, begin-full, reply-taken, reply-stray, tick-taken}
 use Rattle.kinds.specs.Table.{rows}
-use Rattle.packet.specs.Frames.{commandOf, judgedPacket}
-use Rattle.packet.specs.Headers.{headerOf}
+use Rattle.octets.specs.Parts.{part}
+use Rattle.packet.specs.Frames.{commandOf, unitOf, judgedPacket}
+use Rattle.packet.specs.Headers.{headerOf, openedPacket}
 use Rattle.place.specs.declared.Place.{Place}
 use Rattle.place.specs.declared.Reply.{Reply}
 use Rattle.place.specs.declared.Step.{Step}
@@ -36,6 +45,7 @@ use Rattle.places.specs.declared.Report.{Report}
 use Rattle.places.specs.Rows.{placeAt, isOpenAs, upward, unopened, nothing}
 use Rattle.taking.specs.Takes.{roleOf, untold, taken}
 use Rattle.taking.proofs.Promises.{lateRefused, isReply, taken-confirm, taken-answer, taken-deny, taken-bad-answer, taken-other, taken-refused, callsAs, taken-run}
+use Rattle.verdict.specs.declared.Verdict.{Verdict}
 use Rattle.verdict.specs.Orders.{good, refusal, isGood}
 use Rattle.verdict.specs.Refusals.{STATE, SETTING, FULL, STRAY}
 
@@ -61,42 +71,93 @@ module _ (t r : ℕ) (fresh : isGood (made t r .verdict) ≡ true) (cs : List Ca
 pub exchange-broken : (x : Exchanges) → legal x ≡ false → (c : Call) → verdictOf x c ≡ refusal STATE 0
 exchange-broken = broken-refused
 
--- SERIAL NUMBERS: "Begin, told send or request, takes the lowest free place and the first serial, from the next one upward and past 65,535 to 0,
--- that is not open; the one after it is then next."
-module _ (x : Exchanges) (sound : Sound x) (m : Told) where
-  -- it is taken where a place is free, and refused where "16 exchanges open"
-  pub begin-where-free : (k : ℕ) → k < 16 → isOpen (placeAt (x .places) k .mode) ≡ false → begun x m .verdict ≡ good
-  begin-where-free = begin-taken x sound m
+-- SERIAL NUMBERS: it "takes the lowest free place and the first serial, from the next one upward and past 65,535 to 0, that is not open; the one
+-- after it is then next." Document 02, Q-8: "it writes the packet with the serial it would give, and only then opens the place."
+module _ (x : Exchanges) (sound : Sound x) (a : Asked) where
+  -- where a place is free the packet writer decides, with COMMAND for all but 1, 2 and 4; it is refused where "16 exchanges open"
+  pub begin-where-free : (k : ℕ) → k < 16 → isOpen (placeAt (x .places) k .mode) ≡ false
+      → begunBy x a .verdict ≡ draftVerdict rows x (a .out) (a .draft) (a .size)
+  begin-where-free = begin-free x sound a
 
-  pub begin-where-full : ((k : ℕ) → k < 16 → isOpen (placeAt (x .places) k .mode) ≡ true)
-      → begun x m ≡ record { verdict = refusal FULL 0; place = 0; serial = 0; state = x }
-  begin-where-full = begin-full x sound m
+  pub begin-where-full : ((k : ℕ) → k < 16 → isOpen (placeAt (x .places) k .mode) ≡ true) → begunBy x a ≡ unbegun x (refusal FULL 0)
+  begin-where-full = begin-full x sound a
 
-  module _ (taken : isGood (begun x m .verdict) ≡ true) where
-    pub serial-not-open : isOpenAs (x .places) 0 16 (begun x m .serial) ≡ false
-    serial-not-open = given-unopened x m taken
+  -- a refused one uses up nothing: the next that is good gives the serial that the refused one would have given
+  pub serial-not-used-up : isGood (begunBy x a .verdict) ≡ false → (b : Asked) → isGood (begunBy (begunBy x a .state) b .verdict) ≡ true
+      → begunBy (begunBy x a .state) b .serial ≡ found x .serial
+  serial-not-used-up e b g =
+      begun-found (begunBy x a .state) b g ∙ ap (λ (y : Begun). found (y .state) .serial) (begin-refused x a e)
+
+  module _ (taken : isGood (begunBy x a .verdict) ≡ true) where
+    pub serial-not-open : isOpenAs (x .places) 0 16 (begunBy x a .serial) ≡ false
+    serial-not-open = given-unopened x a taken
 
     -- all from the next one up to it are open
-    pub serial-is-first : (n : ℕ) × ((begun x m .serial ≡ upward (x .next) n) × ((j : ℕ) → j < n → isOpenAs (x .places) 0 16 (upward (x .next) j) ≡ true))
-    serial-is-first = (firstFit (unopened (x .places) 0 16 (x .next)) 0 16, given-first x m taken)
+    pub serial-is-first : (n : ℕ) × ((begunBy x a .serial ≡ upward (x .next) n) × ((j : ℕ) → j < n → isOpenAs (x .places) 0 16 (upward (x .next) j) ≡ true))
+    serial-is-first = (firstFit (unopened (x .places) 0 16 (x .next)) 0 16, given-first x a taken)
 
-    pub serial-then-next : begun x m .state .next ≡ upward (begun x m .serial) 1
-    serial-then-next = given-next x m taken
+    pub serial-then-next : begunBy x a .state .next ≡ upward (begunBy x a .serial) 1
+    serial-then-next = given-next x a taken
 
-    pub place-is-inside : begun x m .place < 16
-    place-is-inside = begun-inside x m taken
+    pub place-is-inside : begunBy x a .place < 16
+    place-is-inside = begun-inside x a taken
 
-    pub place-was-free : isOpen (placeAt (x .places) (begun x m .place) .mode) ≡ false
-    place-was-free = taken-free x m taken
+    pub place-was-free : isOpen (placeAt (x .places) (begunBy x a .place) .mode) ≡ false
+    place-was-free = taken-free x a taken
 
-    pub place-is-lowest : (k : ℕ) → k < begun x m .place → isOpen (placeAt (x .places) k .mode) ≡ true
-    place-is-lowest = taken-lowest x m taken
+    pub place-is-lowest : (k : ℕ) → k < begunBy x a .place → isOpen (placeAt (x .places) k .mode) ≡ true
+    place-is-lowest = taken-lowest x a taken
 
-    pub place-is-opened : placeAt (begun x m .state .places) (begun x m .place) ≡ opened (begun x m .serial) (modeOf m)
-    place-is-opened = taken-opened x sound m taken
+    -- "Commands 1 and 2 open a send, 4 a request."
+    pub place-is-opened : placeAt (begunBy x a .state .places) (begunBy x a .place) ≡ opened (begunBy x a .serial) (modeOf (a .draft .command))
+    place-is-opened = taken-opened x sound a taken
 
-    pub begin-leaves-others : (k : ℕ) → (k ≡ begun x m .place → ⊥) → placeAt (begun x m .state .places) k ≡ placeAt (x .places) k
-    begin-leaves-others = begin-others x m taken
+    pub command-opens : isOpen (modeOf (a .draft .command)) ≡ true
+    command-opens = taken-so x a taken .opens
+
+    pub begin-leaves-others : (k : ℕ) → (k ≡ begunBy x a .place → ⊥) → placeAt (begunBy x a .state .places) k ≡ placeAt (x .places) k
+    begin-leaves-others = begin-others x a taken
+
+    -- what is written is judged good and reads back with that serial, the command and the fields, around the unit that stood there; the rest stays
+    pub begun-read-back : Addressed (a .draft)
+        → let out : List ℕ = begunOutput rows x (a .out) (a .draft) (a .size) in
+        let p : List ℕ = take (begunBy x a .length) out in
+        (isGood (judgedPacket rows p) ≡ true)
+        × (openedPacket rows p .header ≡ headed (a .draft) (begunBy x a .serial))
+        × (openedPacket rows p .length ≡ a .size)
+        × (unitOf p ≡ part (a .out) 27 (27 + a .size))
+        × (drop (begunBy x a .length) out ≡ drop (begunBy x a .length) (a .out))
+    begun-read-back six = (begun-judged x a six taken, begun-header x a six taken, begun-size x a six taken, begun-unit x a six taken, begun-beyond x a six taken)
+
+-- `Addressed` asks for addresses of six bytes: every draft that a caller can hand over is so
+pub draft-handed : (d : Draft) (vs : List Val) → Is the-row d vs → Addressed d
+draft-handed = draft-addressed
+
+-- WHAT DIFFERS FROM RELEASE 1.0, where begin and the packet writer were two calls: of a command that opens an exchange the verdict and the output
+-- are those of the two, and so is the table but where a place was found and the packet was refused; any other command is refused
+module _ (x : Exchanges) (a : Asked) where
+  abbrev before : Left
+  before = inTwo rows x (modeOf (a .draft .command)) (a .out) (a .draft) (a .size)
+
+  abbrev verdict : Verdict
+  verdict = begunVerdict rows x (a .out) (a .draft) (a .size)
+
+  pub other-commands-refused : isOpen (modeOf (a .draft .command)) ≡ false → isGood verdict ≡ false
+  other-commands-refused = others-refused rows x (a .out) (a .draft) (a .size)
+
+  module _ (opens : isOpen (modeOf (a .draft .command)) ≡ true) where
+    pub verdict-as-before : verdict ≡ before .verdict
+    verdict-as-before = same-verdict rows x (a .out) (a .draft) (a .size) opens
+
+    pub output-as-before : begunOutput rows x (a .out) (a .draft) (a .size) ≡ before .out
+    output-as-before = same-output rows x (a .out) (a .draft) (a .size) opens
+
+    pub table-as-before : (isGood verdict ≡ true → begunBy x a .state ≡ before .state) × (isGood (found x .verdict) ≡ false → begunBy x a .state ≡ before .state)
+    table-as-before = (same-written rows x (a .out) (a .draft) (a .size) opens, same-unfound rows x (a .out) (a .draft) (a .size) opens)
+
+    pub table-differs : isGood (found x .verdict) ≡ true → isGood verdict ≡ false
+        → (before .state ≡ entered x (found x .place) (found x .serial) (modeOf (a .draft .command))) × (begunBy x a .state ≡ x)
+    table-differs = refused-differs rows x (a .out) (a .draft) (a .size) opens
 
 -- THE END OF AN EXCHANGE: "Confirm fits a send of its serial, answer a request; the place is freed."
 module _ (x : Exchanges) (sound : Sound x) (s : ℕ) (w : Reply) where

@@ -54,15 +54,12 @@ use Rattle.place.proofs.Place.denied.Reads as place-place-denied
 use Rattle.place.proofs.Place.ticked.Reads as place-place-ticked
 use Rattle.place.proofs.Place.fits.Reads as place-place-fits
 use Rattle.place.proofs.Place.replied.Reads as place-place-replied
-use Rattle.places.proofs.lowest_free.Reads as places-lowest-free
-use Rattle.places.proofs.twice.Reads as places-twice
-use Rattle.places.proofs.all_keep.Reads as places-all-keep
+use Rattle.places.proofs.are_sound.Reads as places-are-sound
+use Rattle.places.proofs.find_opening.Reads as places-find-opening
 use Rattle.places.proofs.after.Reads as places-after
-use Rattle.places.proofs.serial_for.Reads as places-serial-for
 use Rattle.places.proofs.fitting.Reads as places-fitting
 use Rattle.places.proofs.tick_all.Reads as places-tick-all
 use Rattle.exchange.proofs.Exchanges.fresh.Reads as exchange-exchanges-fresh
-use Rattle.exchange.proofs.Exchanges.begin.Reads as exchange-exchanges-begin
 use Rattle.exchange.proofs.Exchanges.reply.Reads as exchange-exchanges-reply
 use Rattle.exchange.proofs.Exchanges.tick.Reads as exchange-exchanges-tick
 use Rattle.taking.proofs.take.Reads as taking-take
@@ -227,20 +224,14 @@ place-place-fits-determined κs x r s a b = a ∙ sym b
 pub place-place-replied-determined : (κs : _) (x : _) (r s : _) → place-place-replied.Post κs x r x → place-place-replied.Post κs x s x → r ≡ s
 place-place-replied-determined κs x r s a b = a ∙ sym b
 
-pub places-lowest-free-determined : (κs : _) (x : _) (r s : _) → places-lowest-free.Post κs x r x → places-lowest-free.Post κs x s x → r ≡ s
-places-lowest-free-determined κs x r s a b = a ∙ sym b
+pub places-are-sound-determined : (κs : _) (x : _) (r s : _) → places-are-sound.Post κs x r x → places-are-sound.Post κs x s x → r ≡ s
+places-are-sound-determined κs x r s a b = a ∙ sym b
 
-pub places-twice-determined : (κs : _) (x : _) (r s : _) → places-twice.Post κs x r x → places-twice.Post κs x s x → r ≡ s
-places-twice-determined κs x r s a b = a ∙ sym b
-
-pub places-all-keep-determined : (κs : _) (x : _) (r s : _) → places-all-keep.Post κs x r x → places-all-keep.Post κs x s x → r ≡ s
-places-all-keep-determined κs x r s a b = a ∙ sym b
+pub places-find-opening-determined : (κs : _) (x : _) (r s : _) → places-find-opening.Post κs x r x → places-find-opening.Post κs x s x → r ≡ s
+places-find-opening-determined κs x r s a b = a ∙ sym b
 
 pub places-after-determined : (κs : _) (x : _) (r s : _) → places-after.Post κs x r x → places-after.Post κs x s x → r ≡ s
 places-after-determined κs x r s a b = a ∙ sym b
-
-pub places-serial-for-determined : (κs : _) (x : _) (r s : _) → places-serial-for.Post κs x r x → places-serial-for.Post κs x s x → r ≡ s
-places-serial-for-determined κs x r s a b = a ∙ sym b
 
 pub places-fitting-determined : (κs : _) (x : _) (r s : _) → places-fitting.Post κs x r x → places-fitting.Post κs x s x → r ≡ s
 places-fitting-determined κs x r s a b = a ∙ sym b
@@ -250,9 +241,6 @@ places-tick-all-determined κs x r s a b = a ∙ sym b
 
 pub exchange-exchanges-fresh-determined : (κs : _) (x : _) (r s : _) → exchange-exchanges-fresh.Post κs x r x → exchange-exchanges-fresh.Post κs x s x → r ≡ s
 exchange-exchanges-fresh-determined κs x r s a b = a ∙ sym b
-
-pub exchange-exchanges-begin-determined : (κs : _) (x : _) (r s : _) → exchange-exchanges-begin.Post κs x r x → exchange-exchanges-begin.Post κs x s x → r ≡ s
-exchange-exchanges-begin-determined κs x r s a b = a ∙ sym b
 
 pub exchange-exchanges-reply-determined : (κs : _) (x : _) (r s : _) → exchange-exchanges-reply.Post κs x r x → exchange-exchanges-reply.Post κs x s x → r ≡ s
 exchange-exchanges-reply-determined κs x r s a b = a ∙ sym b

@@ -3,6 +3,9 @@ use Prim.Native.Nat.{ℕ}
 use mathlib.Core.List.{List}
 use mathlib.Core.Path.{_≡_, sym, _∙_}
 use denote.Ref.{RefT, now}
+use Rattle.exchange.specs.declared.Begun.{Begun}
+use Rattle.exchange.specs.declared.Draft.{Draft}
+use Rattle.exchange.specs.declared.Exchanges.{Exchanges}
 use Rattle.fields.specs.declared.Fields.{Fields}
 use Rattle.label.specs.declared.Label.{Label}
 use Rattle.packet.specs.declared.Header.{Header}
@@ -20,8 +23,7 @@ use Rattle.trawnosz.proofs.trawnosz_find_object.Reads as find-object
 use Rattle.trawnosz.proofs.trawnosz_read_object.Reads as read-object
 use Rattle.trawnosz.proofs.trawnosz_find_description.Reads as find-description
 use Rattle.trawnosz.proofs.trawnosz_exchanges_fresh.Reads as exchanges-fresh
-use Rattle.trawnosz.proofs.trawnosz_begin_send.Reads as begin-send
-use Rattle.trawnosz.proofs.trawnosz_begin_request.Reads as begin-request
+use Rattle.trawnosz.proofs.trawnosz_begin_and_write.Reads as begin-and-write
 use Rattle.trawnosz.proofs.trawnosz_reply_confirm.Reads as reply-confirm
 use Rattle.trawnosz.proofs.trawnosz_reply_answer.Reads as reply-answer
 use Rattle.trawnosz.proofs.trawnosz_reply_deny.Reads as reply-deny
@@ -71,12 +73,6 @@ find-description-determined κs x r s a b = a ∙ sym b
 pub exchanges-fresh-determined : (κs : _) (x : _) (r s : _) → exchanges-fresh.Post κs x r x → exchanges-fresh.Post κs x s x → r ≡ s
 exchanges-fresh-determined κs x r s a b = a ∙ sym b
 
-pub begin-send-determined : (κs : _) (x : _) (r s : _) → begin-send.Post κs x r x → begin-send.Post κs x s x → r ≡ s
-begin-send-determined κs x r s a b = a ∙ sym b
-
-pub begin-request-determined : (κs : _) (x : _) (r s : _) → begin-request.Post κs x r x → begin-request.Post κs x s x → r ≡ s
-begin-request-determined κs x r s a b = a ∙ sym b
-
 pub reply-confirm-determined : (κs : _) (x : _) (r s : _) → reply-confirm.Post κs x r x → reply-confirm.Post κs x s x → r ≡ s
 reply-confirm-determined κs x r s a b = a ∙ sym b
 
@@ -104,6 +100,11 @@ find-part-determined κs x r s a b = a ∙ sym b
 pub write-packet-determined : (κs : _) (out o o' : RefT (List ℕ)) (h : Header) (l : ℕ) (r s : Verdict)
     → write-packet.Post κs (out, (h, (l, tt))) r (o, (h, (l, tt))) → write-packet.Post κs (out, (h, (l, tt))) s (o', (h, (l, tt))) → (r ≡ s) × (now o ≡ now o')
 write-packet-determined κs out o o' h l r s a b = (a .0 ∙ sym (b .0), a .1 ∙ sym (b .1))
+
+pub begin-and-write-determined : (κs : _) (x : Exchanges) (out o o' : RefT (List ℕ)) (d : Draft) (l : ℕ) (r s : Begun)
+    → begin-and-write.Post κs (x, (out, (d, (l, tt)))) r (x, (o, (d, (l, tt)))) → begin-and-write.Post κs (x, (out, (d, (l, tt)))) s (x, (o', (d, (l, tt))))
+    → (r ≡ s) × (now o ≡ now o')
+begin-and-write-determined κs x out o o' d l r s a b = (a .0 ∙ sym (b .0), a .1 ∙ sym (b .1))
 
 pub write-packet-object-determined : (κs : _) (out o o' : RefT (List ℕ)) (l : ℕ) (k : ℕ) (f : Fields) (d : RefT (List ℕ)) (r s : Verdict)
     → write-packet-object.Post κs (out, (l, (k, (f, (d, tt))))) r (o, (l, (k, (f, (d, tt)))))

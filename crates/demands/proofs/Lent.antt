@@ -4,6 +4,9 @@ use Prim.Native.Nat.{ℕ}
 use mathlib.Core.List.{List}
 use mathlib.Core.Path.{_≡_, sym, _∙_}
 use denote.Ref.{RefT, now, ptr}
+use Rattle.exchange.specs.declared.Begun.{Begun}
+use Rattle.exchange.specs.declared.Draft.{Draft}
+use Rattle.exchange.specs.declared.Exchanges.{Exchanges}
 use Rattle.fields.specs.declared.Fields.{Fields}
 use Rattle.label.specs.declared.Label.{Label}
 use Rattle.packet.specs.declared.Header.{Header}
@@ -16,6 +19,7 @@ use Rattle.unit.proofs.object.Reads as unit-object
 use Rattle.typed.proofs.description.Reads as typed-description
 use Rattle.packet.proofs.unit_of.Reads as packet-unit-of
 use Rattle.devices.proofs.find.Reads as devices-find
+use Rattle.exchange.proofs.Exchanges.begin_and_write.Reads as exchange-exchanges-begin-and-write
 use Rattle.output.proofs.write.Reads as output-write
 use Rattle.output.proofs.write_object.Reads as output-write-object
 use Rattle.output.proofs.write_text.Reads as output-write-text
@@ -51,6 +55,11 @@ devices-find-determined κs x r s a b = (a .0 ∙ sym (b .0), a .1 ∙ sym (b .1
 pub output-write-determined : (κs : _) (out o o' : RefT (List ℕ)) (h : Header) (l : ℕ) (r s : Verdict)
     → output-write.Post κs (out, (h, (l, tt))) r (o, (h, (l, tt))) → output-write.Post κs (out, (h, (l, tt))) s (o', (h, (l, tt))) → (r ≡ s) × (now o ≡ now o')
 output-write-determined κs out o o' h l r s a b = (a .0 ∙ sym (b .0), a .1 ∙ sym (b .1))
+
+pub exchange-exchanges-begin-and-write-determined : (κs : _) (x : Exchanges) (out o o' : RefT (List ℕ)) (d : Draft) (l : ℕ) (r s : Begun)
+    → exchange-exchanges-begin-and-write.Post κs (x, (out, (d, (l, tt)))) r (x, (o, (d, (l, tt))))
+    → exchange-exchanges-begin-and-write.Post κs (x, (out, (d, (l, tt)))) s (x, (o', (d, (l, tt)))) → (r ≡ s) × (now o ≡ now o')
+exchange-exchanges-begin-and-write-determined κs x out o o' d l r s a b = (a .0 ∙ sym (b .0), a .1 ∙ sym (b .1))
 
 pub output-write-object-determined : (κs : _) (out o o' : RefT (List ℕ)) (l : ℕ) (k : ℕ) (f : Fields) (d : RefT (List ℕ)) (r s : Verdict)
     → output-write-object.Post κs (out, (l, (k, (f, (d, tt))))) r (o, (l, (k, (f, (d, tt)))))

@@ -11,13 +11,12 @@ use Rattle.place.specs.declared.Reply.{Reply}
 use Rattle.place.specs.declared.Step.{Step}
 use Rattle.place.specs.Steps.{NOTHING, replied}
 use Rattle.exchange.specs.declared.Exchanges.{Exchanges}
-use Rattle.exchange.specs.declared.Told.{Told}
 use Rattle.exchange.specs.declared.Found.{Found}
 use Rattle.exchange.specs.declared.Replied.{Replied}
 use Rattle.exchange.specs.declared.Ticked.{Ticked}
 use Rattle.places.specs.declared.Swept.{Swept}
 use Rattle.places.specs.Rows.{placeAt, lowestFree, serialFor, fitting, nothing, swept}
-use Rattle.exchange.specs.Table.{inRange, legal, blank, made, found, entered, placed, modeOf, begun, answered, ticking}
+use Rattle.exchange.specs.Table.{inRange, legal, blank, made, found, placed, answered, ticking}
 
 -- making a table
 module _ (t r : ℕ) where
@@ -57,16 +56,15 @@ module _ (x : Exchanges) where
           let h = ltb-true (lowestFree (x .places) 0 16) 16 q in
           subst⁻¹ (λ (y : Found). y .place < 16) (found-good e h) h
 
-  -- beginning
-  pub begun-refused : (m : Told) → isGood (found x .verdict) ≡ false
-      → begun x m ≡ record { verdict = found x .verdict; place = 0; serial = 0; state = x }
-  unfolding begun found
-  begun-refused m e = simp e
+  -- where one was found
+  module _ (e : isGood (found x .verdict) ≡ true) where
+    pub found-lowest : found x .place ≡ lowestFree (x .places) 0 16
+    unfolding found
+    found-lowest = simp e
 
-  pub begun-good : (m : Told) → isGood (found x .verdict) ≡ true
-      → begun x m ≡ record { verdict = found x .verdict; place = found x .place; serial = found x .serial; state = entered x (found x .place) (found x .serial) (modeOf m) }
-  unfolding begun
-  begun-good m e = simp e
+    pub found-serial : found x .serial ≡ serialFor (x .places) 0 16 (x .next)
+    unfolding found
+    found-serial = simp e
 
   -- a reply
   module _ (s : ℕ) (w : Reply) where

@@ -1,46 +1,80 @@
 -- What each way out of a call hands back, from what its own calls told on the way there. Assumes nothing.
-use Prim.Native.Nat.{ℕ, _≤_, _<_}
-use mathlib.Core.Bool.{Bool, true, false, not}
+use Prim.Native.Nat.{ℕ, _+_, _≤_, _<_}
+use native.Mathlib.Omega.{arith}
+use mathlib.Core.Bool.{Bool, true, false, not, cond}
+use mathlib.Core.List.{List}
 use mathlib.Core.Path.{_≡_, sym, ap, subst, subst⁻¹, _∙_}
+use mir.Syntax.{w64}
+use mir.Val.{Fits}
 use lib.ListN.{set, replicate}
 use Rattle.octets.proofs.Flags.{on, off}
+use Rattle.kinds.specs.Table.{rows}
+use Rattle.output.specs.Writing.{packetVerdict, writtenPacket}
+use Rattle.output.proofs.Judging.{kept}
+use Rattle.packet.specs.declared.Header.{Header}
 use Rattle.verdict.specs.declared.Verdict.{Verdict}
 use Rattle.verdict.specs.Refusals.{STATE, SETTING, FULL, STRAY}
 use Rattle.verdict.specs.Orders.{good, refusal, isGood}
 use Rattle.place.specs.declared.Reply.{Reply}
 use Rattle.place.specs.declared.Step.{Step}
-use Rattle.place.specs.Rules.{free, opened}
+use Rattle.place.specs.Rules.{free, opened, isOpen}
 use Rattle.place.specs.declared.Place.{Place}
 use Rattle.place.specs.Steps.{NOTHING, replied}
+use Rattle.places.specs.declared.Opening.{Opening}
+use Rattle.places.specs.declared.Opening.the-variants.{Broken, Full, At}
 use Rattle.places.specs.declared.Swept.{Swept}
-use Rattle.places.specs.Rows.{placeAt, lowestFree, twice, allKeep, upward, serialFor, fitting, nothing, swept}
+use Rattle.places.specs.Rows.{placeAt, areSound, opening, upward, fitting, nothing, swept}
+use Rattle.places.proofs.Openings.{is-broken, is-full, is-at}
 use Rattle.exchange.specs.declared.Exchanges.{Exchanges}
-use Rattle.exchange.specs.declared.Told.{Told}
+use Rattle.exchange.specs.declared.Draft.{Draft}
 use Rattle.exchange.specs.declared.Made.{Made}
 use Rattle.exchange.specs.declared.Found.{Found}
 use Rattle.exchange.specs.declared.Begun.{Begun}
 use Rattle.exchange.specs.declared.Replied.{Replied}
 use Rattle.exchange.specs.declared.Ticked.{Ticked}
-use Rattle.exchange.specs.Table.{inRange, legal, made, found, entered, placed, modeOf, begun, answered, ticking}
-use Rattle.exchange.proofs.Answers.{made-refused, made-good, found-state, found-full, found-good, found-place, begun-refused, begun-good}
+use Rattle.exchange.specs.Begins.{headedBy, modeOf, begunVerdict, unbegun, begun, begunOutput}
+use Rattle.exchange.specs.Table.{inRange, legal, made, unfound, found, entered, placed, answered, ticking}
+use Rattle.exchange.proofs.Answers.{made-refused, made-good, found-state, found-full, found-good, found-place}
+use Rattle.exchange.proofs.Begins.{draft-judged, find-decides, draft-decides, taken-by, begun-refused, output-kept, opening-at, begun-good, output-written, begun-few}
 use Rattle.exchange.proofs.Answers.{answered-state, answered-stray, answered-good, stepped, ticking-state, ticking-good, after-tick}
 
 -- whether a state keeps its rules
-module _ (x : Exchanges) (ranged kept : Bool) (r : ranged ≡ inRange (x .timeout) (x .resends)) where
+module _ (x : Exchanges) (ranged : Bool) (r : ranged ≡ inRange (x .timeout) (x .resends)) where
   pub out-of-range : not ranged ≡ true → false ≡ legal x
   unfolding legal
   out-of-range n = simp (off r n)
 
-  module _ (k : kept ≡ allKeep (x .timeout) (x .resends) (x .places) 0 16) (n : not ranged ≡ false) where
-    pub not-kept : not kept ≡ true → false ≡ legal x
-    unfolding legal
-    not-kept m = simp (on r n, off k m)
+  pub places-decide : (sound : Bool) → not ranged ≡ false → sound ≡ areSound (x .timeout) (x .resends) (x .places) 0 16 → sound ≡ legal x
+  unfolding legal
+  places-decide sound n e = e ∙ simp (on r n)
 
-    pub kept-or-twice : (double : Bool) → not kept ≡ false → double ≡ twice (x .places) 0 16 → not double ≡ legal x
-    unfolding legal
-    kept-or-twice double m t = simp (on r n, on k m, t)
+  -- finding a place and a serial: f is what is handed back, o what the places told
+  pub find-unset : (f : Found) → not ranged ≡ true → f ≡ unfound STATE → f ≡ found x
+  find-unset f n e = e ∙ sym (found-state x (sym (out-of-range n)))
 
-pub ruleset keeping = (out-of-range, not-kept, kept-or-twice)
+  module _ (n : not ranged ≡ false) (o : Opening) (told : o ≡ opening (x .timeout) (x .resends) (x .places) 0 16 (x .next)) where
+    sound-is : (b : Bool) → areSound (x .timeout) (x .resends) (x .places) 0 16 ≡ b → legal x ≡ b
+    sound-is b e = sym (places-decide b n (sym e))
+
+    pub find-broken : (f : Found) → o ≡ Broken → f ≡ unfound STATE → f ≡ found x
+    find-broken f q e = e ∙ sym (found-state x (sound-is false (is-broken (x .timeout) (x .resends) (x .places) 0 16 (x .next) (sym q ∙ told))))
+
+    pub find-full : (f : Found) → o ≡ Full → f ≡ unfound FULL → f ≡ found x
+    find-full f q e =
+        let is = is-full (x .timeout) (x .resends) (x .places) 0 16 (x .next) (sym q ∙ told) in
+        e ∙ sym (found-full x (sound-is true (is .0)) (is .1))
+
+    pub find-good : (v : Verdict) (k s : ℕ) → o ≡ At k s → v ≡ good → _≡_ {A = Found} (record { verdict = v; place = k; serial = s }) (found x)
+    find-good v k s q e =
+        let is = is-at (x .timeout) (x .resends) (x .places) 0 16 (x .next) k s (sym q ∙ told) in
+        (λ i. record { verdict = e i; place = is .2 i; serial = is .3 i }) ∙ sym (found-good x (sound-is true (is .0)) (is .1))
+
+pub ruleset keeping = (out-of-range, places-decide)
+
+pub ruleset finding = (find-unset, find-broken, find-full, find-good)
+
+pub none-so : (v : Verdict) (n : ℕ) → v ≡ refusal n 0 → _≡_ {A = Found} (record { verdict = v; place = 0; serial = 0 }) (unfound n)
+none-so v n e = ap (λ (w : Verdict). record { verdict = w; place = 0; serial = 0 }) e
 
 -- a fresh table
 module _ (t m : ℕ) (ranged : Bool) (told : ranged ≡ inRange t m) (v : Verdict) (p : Place) (f : p ≡ free) where
@@ -59,20 +93,6 @@ module _ (t m : ℕ) (ranged : Bool) (told : ranged ≡ inRange t m) (v : Verdic
 pub ruleset making = (fresh-refused, fresh-good)
 
 module _ (x : Exchanges) (l : Bool) (told : l ≡ legal x) where
-  -- finding a place and a serial
-  pub find-state : (v : Verdict) → not l ≡ true → v ≡ refusal STATE 0 → _≡_ {A = Found} (record { verdict = v; place = 0; serial = 0 }) (found x)
-  find-state v n e = ap (λ (w : Verdict). record { verdict = w; place = 0; serial = 0 }) e ∙ sym (found-state x (off told n))
-
-  pub find-full : (v : Verdict) (k : ℕ) → not l ≡ false → k ≡ lowestFree (x .places) 0 16 → 16 ≤ k → v ≡ refusal FULL 0
-      → _≡_ {A = Found} (record { verdict = v; place = 0; serial = 0 }) (found x)
-  find-full v k n f h e =
-      ap (λ (w : Verdict). record { verdict = w; place = 0; serial = 0 }) e ∙ sym (found-full x (on told n) (subst (λ (m : ℕ). 16 ≤ m) f h))
-
-  pub find-good : (v : Verdict) (k s : ℕ) → not l ≡ false → k ≡ lowestFree (x .places) 0 16 → k < 16 → s ≡ serialFor (x .places) 0 16 (x .next) → v ≡ good
-      → _≡_ {A = Found} (record { verdict = v; place = k; serial = s }) (found x)
-  find-good v k s n f h q e =
-      (λ i. record { verdict = e i; place = f i; serial = q i }) ∙ sym (found-good x (on told n) (subst (λ (m : ℕ). m < 16) f h))
-
   -- a reply
   module _ (s : ℕ) (w : Reply) (v : Verdict) where
     pub reply-state : not l ≡ true → v ≡ refusal STATE 0
@@ -113,31 +133,82 @@ pub enter-next : (x : Exchanges) (k s m n : ℕ) → n ≡ upward s 1
 enter-next x k s m n e =
     ap (λ (j : ℕ). record { places = set (x .places) k (opened s m); next = j; timeout = x .timeout; resends = x .resends }) e
 
--- beginning, where f is what was found
-module _ (x : Exchanges) (m : Told) (f : Found) (told : f ≡ found x) (g : Bool) (judged : g ≡ isGood (f .verdict)) where
-  pub begin-refused : not g ≡ true → _≡_ {A = Begun} (record { verdict = f .verdict; place = 0; serial = 0; state = x }) (begun x m)
-  begin-refused n =
-      ap (λ (y : Found). record { verdict = y .verdict; place = 0; serial = 0; state = x }) told
-      ∙ sym (begun-refused x m (ap (λ (y : Found). isGood (y .verdict)) (sym told) ∙ off judged n))
+-- the command that the packet writer is handed, m being the mode that the draft's opens
+module _ (c m : ℕ) (o : Bool) (mode : m ≡ modeOf c) (told : o ≡ isOpen m) where
+  pub its-own : o ≡ true → c ≡ cond (isOpen (modeOf c)) c 0
+  its-own e = simp (ap isOpen (sym mode) ∙ sym told ∙ e)
+
+  pub none-of-it : o ≡ false → 0 ≡ cond (isOpen (modeOf c)) c 0
+  none-of-it e = simp (ap isOpen (sym mode) ∙ sym told ∙ e)
+
+pub ruleset offering = (its-own, none-of-it)
+
+-- beginning and writing: f is what was found, b what is handed back where it is refused
+module _ (x : Exchanges) (out : List ℕ) (d : Draft) (l : ℕ) (f : Found) (told : f ≡ found x) (g : Bool) (judged : g ≡ isGood (f .verdict)) where
+  is : (b : Bool) → isGood (f .verdict) ≡ b → isGood (found x .verdict) ≡ b
+  is b e = ap (λ (y : Found). isGood (y .verdict)) (sym told) ∙ e
+
+  module _ (n : not g ≡ true) where
+    decided : f .verdict ≡ begunVerdict rows x out d l
+    decided = ap (λ (y : Found). y .verdict) told ∙ find-decides rows x out d l (is false (off judged n))
+
+    none-found : isGood (begunVerdict rows x out d l) ≡ false
+    none-found = ap isGood (sym decided) ∙ off judged n
+
+    pub begin-unfound : (b : Begun) → b ≡ unbegun x (f .verdict) → b ≡ begun rows x out d l
+    begin-unfound b e = e ∙ ap (unbegun x) decided ∙ sym (begun-refused rows x out d l none-found)
+
+    pub begin-unfound-output : out ≡ begunOutput rows x out d l
+    begin-unfound-output = sym (output-kept rows x out d l none-found)
 
   module _ (n : not g ≡ false) where
-    is-found : isGood (found x .verdict) ≡ true
-    is-found = ap (λ (y : Found). isGood (y .verdict)) (sym told) ∙ on judged n
-
     pub begin-inside : f .place < 16
-    begin-inside = subst⁻¹ (λ (y : Found). y .place < 16) told (found-place x is-found)
+    begin-inside = subst⁻¹ (λ (y : Found). y .place < 16) told (found-place x (is true (on judged n)))
 
-    pub begin-good : (mode : ℕ) (y : Exchanges) → mode ≡ modeOf m → y ≡ entered x (f .place) (f .serial) mode
-        → _≡_ {A = Begun} (record { verdict = f .verdict; place = f .place; serial = f .serial; state = y }) (begun x m)
-    begin-good mode y q e =
-        ap (λ (z : Exchanges). record { verdict = f .verdict; place = f .place; serial = f .serial; state = z }) e
-        ∙ (λ i. record { verdict = told i .verdict; place = told i .place; serial = told i .serial; state = entered x (told i .place) (told i .serial) (q i) })
-        ∙ sym (begun-good x m is-found)
+    -- h is the header that the packet writer was handed, w what it said, k whether that is good, and q what it left in the output
+    module _ (c : ℕ) (h : Header) (w : Verdict) (k : Bool) (opened : c ≡ cond (isOpen (modeOf (d .command))) (d .command) 0)
+        (header : h ≡ headedBy d (f .serial) c) (says : w ≡ packetVerdict rows out h l) (well : k ≡ isGood w) where
+      written : w ≡ begunVerdict rows x out d l
+      written =
+          says
+          ∙ ap (λ (y : Header). packetVerdict rows out y l) (header ∙ ap (λ (y : Found). headedBy d (y .serial) c) told)
+          ∙ draft-judged rows out d l (found x .serial) c opened
+          ∙ draft-decides rows x out d l (is true (on judged n))
 
-pub ruleset finding = (find-state, find-full, find-good)
+      unwritten : not k ≡ true → isGood (begunVerdict rows x out d l) ≡ false
+      unwritten m = ap isGood (sym written) ∙ off well m
+
+      pub begin-unwritten : (b : Begun) → not k ≡ true → b ≡ unbegun x w → b ≡ begun rows x out d l
+      begin-unwritten b m e = e ∙ ap (unbegun x) written ∙ sym (begun-refused rows x out d l (unwritten m))
+
+      pub begin-unwritten-output : (q : List ℕ) → not k ≡ true → q ≡ writtenPacket rows out h l → q ≡ begunOutput rows x out d l
+      begin-unwritten-output q m e =
+          e ∙ sym (kept rows out h l (ap isGood (sym says) ∙ off well m)) ∙ sym (output-kept rows x out d l (unwritten m))
+
+      module _ (m : not k ≡ false) where
+        taken : isGood (begunVerdict rows x out d l) ≡ true
+        taken = ap isGood (sym written) ∙ on well m
+
+        pub begin-few : Fits w64 (30 + l)
+        begin-few = omega (arith, begun-few rows x out d l taken)
+
+        pub begin-written : (mode : ℕ) (y : Exchanges) → mode ≡ modeOf (d .command) → y ≡ entered x (f .place) (f .serial) mode
+            → _≡_ {A = Begun} (record { verdict = w; place = f .place; length = 30 + l; serial = f .serial; state = y }) (begun rows x out d l)
+        begin-written mode y q e =
+            ap (λ (z : Exchanges). record { verdict = w; place = f .place; length = 30 + l; serial = f .serial; state = z })
+            (e ∙ ap (entered x (f .place) (f .serial)) q)
+            ∙ (λ i. opening-at rows x out d l (written i) (told i))
+            ∙ sym (begun-good rows x out d l taken)
+
+        pub begin-written-output : (q : List ℕ) → q ≡ writtenPacket rows out h l → q ≡ begunOutput rows x out d l
+        begin-written-output q e =
+            let own : c ≡ d .command = opened ∙ ap (λ (b : Bool). cond b (d .command) 0) (taken-by rows x out d l taken .opens) in
+            e
+            ∙ ap (λ (y : Header). writtenPacket rows out y l) (header ∙ λ i. headedBy d (told i .serial) (own i))
+            ∙ sym (output-written rows x out d l taken)
 
 pub ruleset replying = (reply-state, reply-stray, reply-good)
 
 pub ruleset ticked = (tick-state, tick-good)
 
-pub ruleset beginning = (begin-refused, begin-inside, begin-good)
+pub ruleset beginning = (begin-unfound, begin-unfound-output, begin-inside, begin-unwritten, begin-unwritten-output, begin-few, begin-written, begin-written-output)

@@ -1,38 +1,46 @@
 -- What each call changes and what it leaves: a refused call nothing, a beginning and a reply one place, a tick each place by the rule for one, and none
 -- the settings. By the calls' definitions. Assumes nothing.
-use Prim.Native.Nat.{ℕ, _<_}
+use Prim.Native.Nat.{ℕ, _+_, _<_}
 use native.Mathlib.Omega.{arith}
 use mathlib.Core.Bool.{Bool, true, false, cond}
 use mathlib.Core.List.{List, [], _∷_}
-use mathlib.Core.Path.{_≡_, refl, ap, subst, subst⁻¹, _∙_}
+use mathlib.Core.Path.{_≡_, refl, sym, ap, subst, subst⁻¹, _∙_}
 use borrow.Author.Tests.{not-true, not-false}
 use lib.ListN.{getD, set, replicate}
 use Rattle.octets.specs.Searches.{firstFit}
 use Rattle.octets.proofs.Searches.{first-fits, first-none}
+use Rattle.kinds.specs.Table.{rows}
 use Rattle.verdict.specs.Orders.{good, isGood, inOrder}
 use Rattle.place.specs.declared.Place.{Place}
 use Rattle.place.specs.declared.Reply.{Reply}
 use Rattle.place.specs.Rules.{opened, isOpen}
 use Rattle.place.specs.Steps.{NOTHING, ticked, replied}
 use Rattle.exchange.specs.declared.Exchanges.{Exchanges}
-use Rattle.exchange.specs.declared.Told.{Told}
 use Rattle.exchange.specs.declared.Begun.{Begun}
 use Rattle.exchange.specs.declared.Replied.{Replied}
 use Rattle.exchange.specs.declared.Ticked.{Ticked}
 use Rattle.places.specs.Rows.{placeAt, freeAt, lowestFree, isOpenAs, upward, unopened, serialFor, fitting, report, nothing, swept}
-use Rattle.exchange.specs.Table.{blank, made, found, placed, modeOf, entered, begun, replyTests, answered, ticking}
-use Rattle.exchange.specs.Calls.{Call, begin, reply, tick, verdictOf, after, run}
+use Rattle.exchange.specs.Begins.{modeOf, begunVerdict, unbegun, begunOutput}
+use Rattle.exchange.specs.Table.{blank, made, found, placed, entered, replyTests, answered, ticking}
+use Rattle.exchange.specs.Calls.{Asked, begunBy, Call, begin, reply, tick, verdictOf, after, run}
 use Rattle.places.proofs.Serials.{serial-unopened, serial-first}
 use Rattle.places.proofs.Rules.{unchanged}
-use Rattle.exchange.proofs.Answers.{found-place}
+use Rattle.exchange.proofs.Answers.{found-place, found-lowest, found-serial}
+use Rattle.exchange.proofs.Begins.{Taken, taken-by, begun-refused, output-kept, opening-at, begun-good, begun-verdict}
 use Rattle.exchange.proofs.Kept.{aged-at, told-at}
 
 -- "A refusal returns its number and place .., zero or nothing for all else, .. gives the state back as it came"
 module _ (x : Exchanges) where
-  pub begin-refused : (m : Told) → isGood (begun x m .verdict) ≡ false
-      → begun x m ≡ record { verdict = begun x m .verdict; place = 0; serial = 0; state = x }
-  unfolding begun found
-  begin-refused m e = simp e
+  -- of a beginning the output too
+  module _ (a : Asked) (e : isGood (begunBy x a .verdict) ≡ false) where
+    told : begunBy x a .verdict ≡ begunVerdict rows x (a .out) (a .draft) (a .size)
+    told = begun-verdict rows x (a .out) (a .draft) (a .size)
+
+    pub begin-refused : begunBy x a ≡ unbegun x (begunBy x a .verdict)
+    begin-refused = begun-refused rows x (a .out) (a .draft) (a .size) (ap isGood (sym told) ∙ e) ∙ ap (unbegun x) (sym told)
+
+    pub begin-unwritten : begunOutput rows x (a .out) (a .draft) (a .size) ≡ a .out
+    begin-unwritten = output-kept rows x (a .out) (a .draft) (a .size) (ap isGood (sym told) ∙ e)
 
   pub reply-refused : (s : ℕ) (w : Reply) → isGood (answered x s w .verdict) ≡ false
       → answered x s w ≡ record { verdict = answered x s w .verdict; place = 0; outcome = NOTHING; state = x }
@@ -47,61 +55,78 @@ module _ (x : Exchanges) where
 -- so a refused call changes nothing
 pub refused-same : (x : Exchanges) (c : Call) → isGood (verdictOf x c) ≡ false → after x c ≡ x
 unfolding verdictOf after
-refused-same x (begin m) e = ap (λ (y : Begun). y .state) (begin-refused x m e)
+refused-same x (begin a) e = ap (λ (y : Begun). y .state) (begin-refused x a e)
 refused-same x (reply s w) e = ap (λ (y : Replied). y .state) (reply-refused x s w e)
 refused-same x tick e = ap (λ (y : Ticked). y .state) (tick-refused x e)
 
+-- and after a refused call every other is answered as it would have been in its place: a beginning gives the serial that it would have given
+pub refused-then : (x : Exchanges) (c : Call) → isGood (verdictOf x c) ≡ false → (a : Asked) → begunBy (after x c) a ≡ begunBy x a
+refused-then x c e a = ap (λ (y : Exchanges). begunBy y a) (refused-same x c e)
+
 -- a beginning that is not refused
-module _ (x : Exchanges) (m : Told) (e : isGood (begun x m .verdict) ≡ true) where
-  begun-place : begun x m .place ≡ lowestFree (x .places) 0 16
-  unfolding begun found
-  begun-place = simp e
+module _ (x : Exchanges) (a : Asked) (e : isGood (begunBy x a .verdict) ≡ true) where
+  pub good-verdict : isGood (begunVerdict rows x (a .out) (a .draft) (a .size)) ≡ true
+  good-verdict = ap isGood (sym (begun-verdict rows x (a .out) (a .draft) (a .size))) ∙ e
 
-  begun-serial : begun x m .serial ≡ serialFor (x .places) 0 16 (x .next)
-  unfolding begun found
-  begun-serial = simp e
+  pub taken-so : Taken rows x (a .out) (a .draft) (a .size)
+  taken-so = taken-by rows x (a .out) (a .draft) (a .size) good-verdict
 
-  pub begun-state : begun x m .state ≡ entered x (begun x m .place) (begun x m .serial) (modeOf m)
-  unfolding begun
-  begun-state = simp e
+  is : begunBy x a ≡ opening-at rows x (a .out) (a .draft) (a .size) (begunVerdict rows x (a .out) (a .draft) (a .size)) (found x)
+  is = begun-good rows x (a .out) (a .draft) (a .size) good-verdict
+
+  begun-place : begunBy x a .place ≡ lowestFree (x .places) 0 16
+  begun-place = ap (λ (y : Begun). y .place) is ∙ found-lowest x (taken-so .find)
+
+  pub begun-found : begunBy x a .serial ≡ found x .serial
+  begun-found = ap (λ (y : Begun). y .serial) is
+
+  begun-serial : begunBy x a .serial ≡ serialFor (x .places) 0 16 (x .next)
+  begun-serial = begun-found ∙ found-serial x (taken-so .find)
+
+  pub begun-state : begunBy x a .state ≡ entered x (begunBy x a .place) (begunBy x a .serial) (modeOf (a .draft .command))
+  begun-state =
+      ap (λ (y : Begun). y .state) is ∙ (λ i. entered x (sym is i .place) (sym is i .serial) (modeOf (a .draft .command)))
+
+  -- the packet has 30+L bytes
+  pub begun-length : begunBy x a .length ≡ 30 + a .size
+  begun-length = ap (λ (y : Begun). y .length) is
 
   -- the serial given is not open, whatever the table
-  pub given-unopened : isOpenAs (x .places) 0 16 (begun x m .serial) ≡ false
+  pub given-unopened : isOpenAs (x .places) 0 16 (begunBy x a .serial) ≡ false
   given-unopened =
       subst⁻¹ (λ (s : ℕ). isOpenAs (x .places) 0 16 s ≡ false) begun-serial (serial-unopened (x .places) 0 16 (x .next) (omega arith))
 
   -- it is the first such from the next one upward
-  pub given-first : (begun x m .serial ≡ upward (x .next) (firstFit (unopened (x .places) 0 16 (x .next)) 0 16))
+  pub given-first : (begunBy x a .serial ≡ upward (x .next) (firstFit (unopened (x .places) 0 16 (x .next)) 0 16))
       × ((j : ℕ) → j < firstFit (unopened (x .places) 0 16 (x .next)) 0 16 → isOpenAs (x .places) 0 16 (upward (x .next) j) ≡ true)
   unfolding serialFor
   given-first = (begun-serial, serial-first (x .places) 0 16 (x .next))
 
   -- the one after it is then next
-  pub given-next : begun x m .state .next ≡ upward (begun x m .serial) 1
+  pub given-next : begunBy x a .state .next ≡ upward (begunBy x a .serial) 1
   given-next = ap (λ (y : Exchanges). y .next) begun-state
 
   -- the place taken was free, and all below it are open
-  pub begun-inside : begun x m .place < 16
-  unfolding begun
-  begun-inside = found-place x e
+  pub begun-inside : begunBy x a .place < 16
+  begun-inside = subst⁻¹ (λ (y : Begun). y .place < 16) is (found-place x (taken-so .find))
 
-  pub taken-free : isOpen (placeAt (x .places) (begun x m .place) .mode) ≡ false
+  pub taken-free : isOpen (placeAt (x .places) (begunBy x a .place) .mode) ≡ false
   unfolding lowestFree
   taken-free =
       subst⁻¹ (λ (k : ℕ). isOpen (placeAt (x .places) k .mode) ≡ false) begun-place
       (not-true (isOpen (placeAt (x .places) (lowestFree (x .places) 0 16) .mode)) (first-fits (freeAt (x .places)) 0 16 (subst (λ (k : ℕ). k < 16) begun-place begun-inside)))
 
-  pub taken-lowest : (k : ℕ) → k < begun x m .place → isOpen (placeAt (x .places) k .mode) ≡ true
+  pub taken-lowest : (k : ℕ) → k < begunBy x a .place → isOpen (placeAt (x .places) k .mode) ≡ true
   unfolding lowestFree
   taken-lowest k h =
       not-false (isOpen (placeAt (x .places) k .mode))
       (first-none (freeAt (x .places)) 0 16 k (omega arith) (subst (λ (n : ℕ). k < n) begun-place h))
 
   -- no other place changes
-  pub begin-others : (k : ℕ) → (k ≡ begun x m .place → ⊥) → placeAt (begun x m .state .places) k ≡ placeAt (x .places) k
+  pub begin-others : (k : ℕ) → (k ≡ begunBy x a .place → ⊥) → placeAt (begunBy x a .state .places) k ≡ placeAt (x .places) k
   begin-others k h =
       ap (λ (y : Exchanges). placeAt (y .places) k) begun-state
-      ∙ unchanged (x .places) (begun x m .place) (opened (begun x m .serial) (modeOf m)) k h
+      ∙ unchanged (x .places) (begunBy x a .place) (opened (begunBy x a .serial) (modeOf (a .draft .command))) k h
 
 -- a reply changes one place at most
 pub reply-others : (x : Exchanges) (s : ℕ) (w : Reply) (k : ℕ) → (k ≡ answered x s w .place → ⊥)
@@ -136,17 +161,16 @@ tick-rest x = rest x (isGood (ticking x .verdict)) _
 abbrev Settings : Exchanges → ℕ → ℕ → Type 0
 Settings x t r = (x .timeout ≡ t) × (x .resends ≡ r)
 
-begin-set : (x : Exchanges) (m : Told) → Settings (begun x m .state) (x .timeout) (x .resends)
-unfolding begun
-begin-set x m = by-test (isGood (found x .verdict))
+begin-set : (x : Exchanges) (a : Asked) → Settings (begunBy x a .state) (x .timeout) (x .resends)
+begin-set x a = by-test (isGood (begunBy x a .verdict)) refl
   where
-    by-test : (b : Bool) → Settings (cond b (entered x (found x .place) (found x .serial) (modeOf m)) x) (x .timeout) (x .resends)
-    by-test true = (refl, refl)
-    by-test false = (refl, refl)
+    by-test : (b : Bool) → isGood (begunBy x a .verdict) ≡ b → Settings (begunBy x a .state) (x .timeout) (x .resends)
+    by-test true e = subst⁻¹ (λ (y : Exchanges). Settings y (x .timeout) (x .resends)) (begun-state x a e) (refl, refl)
+    by-test false e = subst⁻¹ (λ (y : Begun). Settings (y .state) (x .timeout) (x .resends)) (begin-refused x a e) (refl, refl)
 
 settings-stay : (x : Exchanges) (c : Call) → Settings (after x c) (x .timeout) (x .resends)
 unfolding after
-settings-stay x (begin m) = begin-set x m
+settings-stay x (begin a) = begin-set x a
 settings-stay x (reply s w) = (ap (λ (y : Exchanges). y .timeout) (reply-rest x s w), ap (λ (y : Exchanges). y .resends) (reply-rest x s w))
 settings-stay x tick = (ap (λ (y : Exchanges). y .timeout) (tick-rest x), ap (λ (y : Exchanges). y .resends) (tick-rest x))
 

@@ -24,7 +24,7 @@ module _ (t r : ℕ) (p : Place) where
   -- a call that denies the place makes of it what a denial does
   pub denial-step : (c : Call) → denies t p c ≡ true → stepBy t r p c ≡ denied r p
   unfolding denies stepBy replied ticked
-  denial-step (begin m) h = absurd (false≢true h)
+  denial-step (begin a) h = absurd (false≢true h)
   denial-step (reply s Confirm) h = absurd (false≢true h)
   denial-step (reply s Answer) h = absurd (false≢true h)
   denial-step (reply s Deny) h = simp h
@@ -56,7 +56,7 @@ module _ (t r : ℕ) (p : Place) where
   -- a call that does not deny the place tells neither
   other-step : keeps t r p ≡ true → (c : Call) → denies t p c ≡ false → Other (stepBy t r p c .outcome)
   unfolding denies stepBy replied ticked
-  other-step k (begin m) h = nothing-told
+  other-step k (begin a) h = nothing-told
   other-step k (reply s Confirm) h = freed-tells (fits s Confirm p) CONFIRMED (λ e. omega (arith, e), λ e. omega (arith, e))
   other-step k (reply s Answer) h = freed-tells (fits s Answer p) ANSWERED (λ e. omega (arith, e), λ e. omega (arith, e))
   other-step k (reply s Deny) h = subst⁻¹ (λ (b : Bool). Other (cond b (denied r p) (becomes p NOTHING) .outcome)) h nothing-told
@@ -72,7 +72,7 @@ module _ (t r : ℕ) (p : Place) where
   -- only an open place is denied
   denies-open : (c : Call) → denies t p c ≡ true → isOpen (p .mode) ≡ true
   unfolding denies
-  denies-open (begin m) h = absurd (false≢true h)
+  denies-open (begin a) h = absurd (false≢true h)
   denies-open (reply s w) h = holds-is s p (fits-holds s w p (and-eq-true-iff (isDenial w) (fits s w p) .0 h .1)) .0
   denies-open tick h = and-eq-true-iff (isOpen (p .mode)) (eqb (p .age + 1) t) .0 h .0
 
@@ -91,14 +91,14 @@ module _ (x : Exchanges) (sound : Sound x) (k : ℕ) (here : k < 16) where
 
   told-step : (c : Call) → toldOf x c k ≡ stepBy T R p c .outcome
   unfolding toldOf stepBy opens
-  told-step (begin m) = refl
+  told-step (begin a) = refl
   told-step (reply s w) = ap (λ (y : Step). y .outcome) (each-step x sound k here (reply s w) refl)
   told-step tick = ap (λ (y : Step). y .outcome) (each-step x sound k here tick refl)
 
   -- a beginning tells nothing of a place
   told-unopened : (c : Call) → (toldOf x c k ≡ NOTHING → ⊥) → opens x c k ≡ false
   unfolding toldOf opens
-  told-unopened (begin m) h = absurd (h refl)
+  told-unopened (begin a) h = absurd (h refl)
   told-unopened (reply s w) h = refl
   told-unopened tick h = refl
 

@@ -2,8 +2,19 @@
 use Prim.Native.Nat.{ℕ}
 use mathlib.Core.List.{List, [], _∷_, _++_, map}
 use mathlib.Core.Path.{_≡_, refl}
-use lib.ListN.{getD, take, replicate}
+use lib.ListN.{length, getD, take, replicate}
+use Rattle.kinds.specs.Table.{table as types, rowsOf, rows, findRow}
+use Rattle.frame.specs.Frame.{unitLength}
+use Rattle.label.specs.Times.{judged, inRanges}
+use Rattle.octets.specs.Numbers.{lowFirst}
+use Rattle.octets.specs.Parts.{part}
 use Rattle.octets.specs.Searches.{firstFit, anyFits}
+use Rattle.output.specs.Writing.{packetVerdict}
+use Rattle.packet.specs.Frames.{unitOf}
+use Rattle.packet.specs.Headers.{headerOf}
+use Rattle.packet.proofs.Examples.{B}
+use Rattle.unit.specs.Objects.{textSize, endOf, walk, timely}
+use Rattle.unit.specs.Units.{judgedUnit, judgedUnder}
 use Rattle.verdict.specs.Orders.{inOrder}
 use Rattle.verdict.specs.Refusals.{STATE, SETTING, FULL, STRAY}
 use Rattle.place.specs.declared.Place.{Place}
@@ -11,16 +22,34 @@ use Rattle.place.specs.declared.Reply.the-variants.{Confirm, Answer, Deny, BadA
 use Rattle.place.specs.Rules.{FREE, SEND, REQUEST, opened, free, isOpen, isZero, holds, keeps}
 use Rattle.place.specs.Steps.{CONFIRMED, ANSWERED, RESENT, FAILED, counted, denied, ticked, fits, replied}
 use Rattle.exchange.specs.declared.Exchanges.{Exchanges}
-use Rattle.exchange.specs.declared.Told.the-variants as told
+use Rattle.exchange.specs.declared.Draft.{Draft}
 use Rattle.places.specs.declared.Report.{Report}
-use Rattle.places.specs.Rows.{lowestFree, isOpenAs, twice, allKeep, serialFor, fitting, nothing, swept}
-use Rattle.exchange.specs.Table.{legal, blank, made, found, begun, answered, ticking}
-use Rattle.exchange.specs.Calls.{Call, begin, reply, tick, after, run}
+use Rattle.places.specs.Rows.{lowestFree, isOpenAs, twice, allKeep, areSound, serialFor, fitting, nothing, swept}
+use Rattle.exchange.specs.Begins.{modeOf, begunVerdict, begun}
+use Rattle.exchange.specs.Table.{legal, blank, made, found, answered, ticking}
+use Rattle.exchange.specs.Calls.{Asked, begunBy, Call, begin, reply, tick, after, run}
 
--- a call's answer in numbers: the refusal or 0, then of a beginning the place, the serial and the serial that is then next, of a reply the
--- place and the outcome, of a tick the serial told of the first place and the outcome of each
+-- what the header of document 01's packet B has beside its serial, under a command
+abbrev pub draft : ℕ → Draft
+draft c =
+    let h = headerOf B in
+    record { version = h .version; label = h .label; source = h .source; destination = h .destination; command = c }
+
+-- a beginning with this command and this unit in an output that just holds the packet
+abbrev pub asked : ℕ → List ℕ → Asked
+asked c u = record { out = replicate 27 0 ++ (u ++ replicate 3 0); draft = draft c; size = length u }
+
+-- B's own, and a request for the state of system 1 at address 2
+abbrev pub send : Call
+send = begin (asked 2 (unitOf B))
+
+abbrev pub request : Call
+request = begin (asked 4 (0x3D ∷ 0x01 ∷ 0x01 ∷ 0x02 ∷ []))
+
+-- a call's answer in numbers: the refusal or 0, then of a beginning the place, the packet's length, the serial and the serial that is then
+-- next, of a reply the place and the outcome, of a tick the serial told of the first place and the outcome of each
 abbrev answer : Exchanges → Call → List ℕ
-answer x (begin m) = begun x m .verdict .number ∷ begun x m .place ∷ begun x m .serial ∷ begun x m .state .next ∷ []
+answer x (begin a) = let b = begunBy x a in b .verdict .number ∷ b .place ∷ b .length ∷ b .serial ∷ b .state .next ∷ []
 answer x (reply s w) = answered x s w .verdict .number ∷ answered x s w .place ∷ answered x s w .outcome ∷ []
 answer x tick =
     ticking x .verdict .number ∷ getD (ticking x .reports) 0 nothing .serial ∷ map (λ (r : Report). r .outcome) (ticking x .reports)
@@ -52,7 +81,7 @@ first s o = 0 ∷ s ∷ o ∷ replicate 15 0
 
 -- what a call answers that was refused: a beginning, a reply, a tick
 abbrev no-begin : ℕ → ℕ → List ℕ
-no-begin n next = n ∷ 0 ∷ 0 ∷ next ∷ []
+no-begin n next = n ∷ 0 ∷ 0 ∷ 0 ∷ next ∷ []
 
 abbrev no-reply : ℕ → List ℕ
 no-reply n = n ∷ 0 ∷ 0 ∷ []
@@ -63,17 +92,17 @@ no-tick n = n ∷ 0 ∷ replicate 16 0
 -- all three on a state that breaks the rules
 abbrev broken : Exchanges → Example
 broken x =
-    example x (begin told.Send ∷ reply 7 Deny ∷ tick ∷ []) (no-begin STATE (x .next) ∷ no-reply STATE ∷ no-tick STATE ∷ []) (take 2 (x .places))
+    example x (send ∷ reply 7 Deny ∷ tick ∷ []) (no-begin STATE (x .next) ∷ no-reply STATE ∷ no-tick STATE ∷ []) (take 2 (x .places))
 
 abbrev pub examples : List Example
 examples =
     -- a send and a request, each under its own serial
-    example (table [] 7 1 0) (begin told.Send ∷ begin told.Request ∷ []) ((0 ∷ 0 ∷ 7 ∷ 8 ∷ []) ∷ (0 ∷ 1 ∷ 8 ∷ 9 ∷ []) ∷ []) (opened 7 SEND ∷ opened 8 REQUEST ∷ [])
+    example (table [] 7 1 0) (send ∷ request ∷ []) ((0 ∷ 0 ∷ 39 ∷ 7 ∷ 8 ∷ []) ∷ (0 ∷ 1 ∷ 34 ∷ 8 ∷ 9 ∷ []) ∷ []) (opened 7 SEND ∷ opened 8 REQUEST ∷ [])
     -- the next serial may itself be open: with 65,535 and 0 open, 1 is given and 2 is next
-    ∷ example (table (opened 65535 SEND ∷ free ∷ opened 0 REQUEST ∷ []) 65535 1 0) (begin told.Send ∷ []) ((0 ∷ 1 ∷ 1 ∷ 2 ∷ []) ∷ []) (opened 65535 SEND ∷ opened 1 SEND ∷ [])
+    ∷ example (table (opened 65535 SEND ∷ free ∷ opened 0 REQUEST ∷ []) 65535 1 0) (send ∷ []) ((0 ∷ 1 ∷ 39 ∷ 1 ∷ 2 ∷ []) ∷ []) (opened 65535 SEND ∷ opened 1 SEND ∷ [])
     -- a tick ages open places only, and after a resend the age is 0
-    ∷ example (made 2 1 .state) (begin told.Send ∷ tick ∷ tick ∷ []) ((0 ∷ 0 ∷ 0 ∷ 1 ∷ []) ∷ first 0 0 ∷ first 0 RESENT ∷ []) (counted 1 0 (opened 0 SEND) ∷ free ∷ [])
-    ∷ example (made 2 1 .state) (begin told.Send ∷ tick ∷ tick ∷ tick ∷ tick ∷ []) ((0 ∷ 0 ∷ 0 ∷ 1 ∷ []) ∷ first 0 0 ∷ first 0 RESENT ∷ first 0 0 ∷ first 0 FAILED ∷ []) both-free
+    ∷ example (made 2 1 .state) (send ∷ tick ∷ tick ∷ []) ((0 ∷ 0 ∷ 39 ∷ 0 ∷ 1 ∷ []) ∷ first 0 0 ∷ first 0 RESENT ∷ []) (counted 1 0 (opened 0 SEND) ∷ free ∷ [])
+    ∷ example (made 2 1 .state) (send ∷ tick ∷ tick ∷ tick ∷ tick ∷ []) ((0 ∷ 0 ∷ 39 ∷ 0 ∷ 1 ∷ []) ∷ first 0 0 ∷ first 0 RESENT ∷ first 0 0 ∷ first 0 FAILED ∷ []) both-free
     -- a failed place is zeroed, and its serial is told
     ∷ example (table (opened 7 SEND ∷ []) 9 1 0) (tick ∷ tick ∷ []) (first 7 FAILED ∷ first 0 0 ∷ []) both-free
     -- a send: an answer and a bad answer are stray, a denial fails it, and then it is no more
@@ -86,7 +115,7 @@ examples =
     ∷ example (table (free ∷ opened 7 REQUEST ∷ []) 0 1 1) (reply 7 Answer ∷ []) ((0 ∷ 1 ∷ ANSWERED ∷ []) ∷ []) both-free
     -- sixteen are open
     ∷ example (table (map (λ (s : ℕ). opened s SEND) (0 ∷ 1 ∷ 2 ∷ 3 ∷ 4 ∷ 5 ∷ 6 ∷ 7 ∷ 8 ∷ 9 ∷ 10 ∷ 11 ∷ 12 ∷ 13 ∷ 14 ∷ 15 ∷ [])) 3 1 0)
-    (begin told.Send ∷ []) (no-begin FULL 3 ∷ []) (opened 0 SEND ∷ opened 1 SEND ∷ [])
+    (send ∷ []) (no-begin FULL 3 ∷ []) (opened 0 SEND ∷ opened 1 SEND ∷ [])
     -- STATE: a free place with serial 7; a mode that is none of the three; age T; resends R + 1; one serial open as a send and as a request; T 0 or 11; R 10
     ∷ broken (table (opened 7 FREE ∷ []) 0 1 0)
     ∷ broken (table (opened 7 3 ∷ []) 0 1 0)
@@ -111,7 +140,8 @@ abbrev pub expected : Example → List (List ℕ) × List Place
 expected e = (e .told, e .left)
 
 pub answered-so : map comes-out examples ≡ map expected examples
-unfolding isOpen made found begun answered ticking legal lowestFree isOpenAs twice allKeep serialFor fitting swept after run isZero holds keeps denied ticked fits replied inOrder firstFit anyFits
+unfolding isOpen made found begun begunVerdict modeOf answered ticking legal lowestFree isOpenAs twice allKeep areSound serialFor fitting swept after run isZero holds keeps
+    denied ticked fits replied inOrder firstFit anyFits packetVerdict judgedUnder judgedUnit rowsOf types findRow textSize endOf walk timely judged inRanges lowFirst part unitLength
 answered-so = refl
 
 -- making a table: T 0 or 11, R 10; the ends of the ranges; a refused one is of zeros

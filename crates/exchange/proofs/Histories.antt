@@ -18,9 +18,9 @@ use Rattle.place.specs.Steps.{NOTHING, CONFIRMED, ANSWERED, RESENT, FAILED, cou
 use Rattle.place.proofs.Kept.{holds-is, fits-holds}
 use Rattle.places.specs.Rows.{placeAt}
 use Rattle.exchange.specs.declared.Exchanges.{Exchanges}
-use Rattle.exchange.specs.declared.Told.{Told}
-use Rattle.exchange.specs.Table.{blank, made, modeOf, begun}
-use Rattle.exchange.specs.Calls.{Call, begin, reply, tick, after, run, Sound}
+use Rattle.exchange.specs.Begins.{modeOf}
+use Rattle.exchange.specs.Table.{blank, made}
+use Rattle.exchange.specs.Calls.{Asked, begunBy, Call, begin, reply, tick, after, run, Sound}
 use Rattle.exchange.specs.Histories.{opens, toldOf, stepBy, Seen, isTick, seen, history, sends, since, count}
 use Rattle.exchange.proofs.Kept.{run-sound, made-sound}
 use Rattle.exchange.proofs.Steps.{each-step, taken-opened}
@@ -83,7 +83,7 @@ module _ (t r : ℕ) (p : Place) (h : List Seen) (a : Accounts p h) where
 
   by-call : (c : Call) → Stepped c (stepBy t r p c)
   unfolding stepBy ticked
-  by-call (begin m) = λ o. as-before p h (a o)
+  by-call (begin b) = λ o. as-before p h (a o)
   by-call (reply s w) = by-fit (fits s w p) refl
     where
       by-fit : (b : Bool) → fits s w p ≡ b → Stepped (reply s w) (cond b (replied r w p) (becomes p NOTHING))
@@ -104,14 +104,14 @@ module _ (k : ℕ) (here : k < 16) where
     abbrev Next : Call → Bool → Type 0
     Next c b = Accounts (placeAt (after x c .places) k) (saw (isTick c) b (eqb (toldOf x c k) RESENT) ∷ h)
 
-    opened-now : (m : Told) → opens x (begin m) k ≡ true → Next (begin m) true
+    opened-now : (a : Asked) → opens x (begin a) k ≡ true → Next (begin a) true
     unfolding opens after
-    opened-now m o e =
-        let g = and-eq-true-iff (isGood (begun x m .verdict)) (eqb k (begun x m .place)) .0 o in
-        let is : placeAt (begun x m .state .places) k ≡ opened (begun x m .serial) (modeOf m) =
-        ap (placeAt (begun x m .state .places)) (eqb-true k (begun x m .place) (g .1)) ∙ taken-opened x sound m (g .0) in
-        subst⁻¹ (λ (q : Place). Accounted q (saw false true (eqb (toldOf x (begin m) k) RESENT) ∷ h)) is
-        (just-begun (begun x m .serial) (modeOf m) false (eqb (toldOf x (begin m) k) RESENT) h)
+    opened-now a o e =
+        let g = and-eq-true-iff (isGood (begunBy x a .verdict)) (eqb k (begunBy x a .place)) .0 o in
+        let is : placeAt (begunBy x a .state .places) k ≡ opened (begunBy x a .serial) (modeOf (a .draft .command)) =
+        ap (placeAt (begunBy x a .state .places)) (eqb-true k (begunBy x a .place) (g .1)) ∙ taken-opened x sound a (g .0) in
+        subst⁻¹ (λ (q : Place). Accounted q (saw false true (eqb (toldOf x (begin a) k) RESENT) ∷ h)) is
+        (just-begun (begunBy x a .serial) (modeOf (a .draft .command)) false (eqb (toldOf x (begin a) k) RESENT) h)
 
     one-call : (c : Call) → Accounts (placeAt (after x c .places) k) (seen x c k ∷ h)
     unfolding seen opens
@@ -121,7 +121,7 @@ module _ (k : ℕ) (here : k < 16) where
         by-test c false o =
             subst⁻¹ (Stepped (x .timeout) (x .resends) (placeAt (x .places) k) h a c) (each-step x sound k here c o)
             (by-call (x .timeout) (x .resends) (placeAt (x .places) k) h a c)
-        by-test (begin m) true o = opened-now m o
+        by-test (begin a) true o = opened-now a o
         by-test (reply s w) true o = absurd (false≢true o)
         by-test tick true o = absurd (false≢true o)
 

@@ -1,37 +1,44 @@
 -- Every call keeps the state's rules, so from a fresh table that was not refused STATE never comes.
 -- By what each call changes: one place opened under a serial that was not open, one place after its step, or all after theirs.
 -- Assumes nothing.
-use Prim.Native.Nat.{ℕ, _≤_, _<_}
+use Prim.Native.Nat.{ℕ, _+_, _≤_, _<_}
 use native.Mathlib.Omega.{arith}
-use mathlib.Core.Bool.{Bool, true, false, not, _&&_, and-eq-true-iff, false≢true}
+use mathlib.Core.Bool.{Bool, true, false, not, _&&_, cond, and-eq-true-iff, false≢true}
 use mathlib.Core.List.{List, [], _∷_, map}
 use mathlib.Core.Path.{_≡_, refl, sym, ap, subst, subst⁻¹, _∙_}
 use borrow.Author.Tests.{not-true, ltb-true, ltb-false, leb-true}
 use lib.Dec.{ltb, leb}
 use lib.ListN.{length, getD, set, length-set, length-map, length-replicate, getD-replicate, List·getD-map}
 use Rattle.octets.proofs.Searches.{first-fits}
+use Rattle.octets.specs.Parts.{part}
+use Rattle.kinds.specs.declared.Row.{Row}
+use Rattle.kinds.specs.Table.{rows}
+use Rattle.output.specs.Writing.{roomTests, fieldTests, packetVerdict}
+use Rattle.packet.specs.declared.Header.{Header}
+use Rattle.unit.specs.declared.Carrier.the-variants.{By}
+use Rattle.unit.specs.Units.{unitTests, judgedUnit, isBare, bareTests, isCommand, judgedUnder}
 use Rattle.verdict.specs.declared.Verdict.{Verdict}
-use Rattle.verdict.specs.Refusals.{STATE}
-use Rattle.verdict.specs.Orders.{isGood}
+use Rattle.verdict.specs.Refusals.{STATE, FULL, COMMAND}
+use Rattle.verdict.specs.Orders.{_or-else_, good, isGood, inOrder}
+use Rattle.verdict.proofs.Order.{passed, other-number}
 use Rattle.place.specs.declared.Place.{Place}
 use Rattle.place.specs.declared.Reply.{Reply}
 use Rattle.place.specs.Rules.{opened, free, isOpen, holds, keeps}
 use Rattle.place.specs.Steps.{ticked, replied}
 use Rattle.place.proofs.Kept.{holds-is, fits-holds, replied-holds, ticked-holds, open-keeps, free-keeps, free-holds, replied-keeps, ticked-keeps}
 use Rattle.exchange.specs.declared.Exchanges.{Exchanges}
-use Rattle.exchange.specs.declared.Told.{Told}
-use Rattle.exchange.specs.declared.Told.the-variants as told
 use Rattle.exchange.specs.declared.Made.{Made}
-use Rattle.exchange.specs.declared.Found.{Found}
 use Rattle.exchange.specs.declared.Begun.{Begun}
 use Rattle.exchange.specs.declared.Replied.{Replied}
 use Rattle.exchange.specs.declared.Ticked.{Ticked}
-use Rattle.places.specs.Rows.{placeAt, holdsAt, fitsAt, lowestFree, isOpenAs, twice, allKeep, serialFor, fitting, aged, report, nothing, swept}
-use Rattle.exchange.specs.Table.{inRange, legal, blank, made, placed, entered, modeOf, begun, answered, ticking}
-use Rattle.exchange.specs.Calls.{Call, begin, reply, tick, verdictOf, after, run, Sound}
+use Rattle.places.specs.Rows.{placeAt, holdsAt, fitsAt, lowestFree, isOpenAs, twice, allKeep, areSound, fitting, aged, report, nothing, swept}
+use Rattle.exchange.specs.Begins.{modeOf, openingTests, begunVerdict}
+use Rattle.exchange.specs.Table.{inRange, legal, blank, made, found, placed, entered, answered, ticking}
+use Rattle.exchange.specs.Calls.{Asked, begunBy, Call, begin, reply, tick, verdictOf, after, run, Sound}
 use Rattle.places.proofs.Serials.{serial-unopened}
 use Rattle.places.proofs.Rules.{Keeping, keep-each, each-keep, Apart, once-apart, apart-once, apart-fewer, each-place, apart-opened}
-use Rattle.exchange.proofs.Answers.{made-refused, made-good, found-full, found-good, begun-refused, begun-good, answered-stray, answered-good, ticking-good}
+use Rattle.exchange.proofs.Answers.{made-refused, made-good, found-place, found-serial, answered-stray, answered-good, ticking-good}
+use Rattle.exchange.proofs.Begins.{taken-by, begun-refused, begun-good, begun-verdict}
 
 -- the rules one by one
 pub record Rules (x : Exchanges) : Type 0 where
@@ -40,20 +47,19 @@ pub record Rules (x : Exchanges) : Type 0 where
   pub apart : Apart (x .places) 0 16
 
 pub rules-of : (x : Exchanges) → legal x ≡ true → Rules x
-unfolding legal
+unfolding legal areSound
 rules-of x e =
-    let r = inRange (x .timeout) (x .resends) in
     let a = allKeep (x .timeout) (x .resends) (x .places) 0 16 in
-    let h = and-eq-true-iff (r && a) (not (twice (x .places) 0 16)) .0 e in
-    let g = and-eq-true-iff r a .0 (h .0) in
+    let h = and-eq-true-iff (inRange (x .timeout) (x .resends)) (areSound (x .timeout) (x .resends) (x .places) 0 16) .0 e in
+    let g = and-eq-true-iff a (not (twice (x .places) 0 16)) .0 (h .1) in
     record {
-      range = g .0;
-      keeping = keep-each (x .timeout) (x .resends) (x .places) 0 16 (g .1);
-      apart = once-apart (x .places) 0 16 (not-true (twice (x .places) 0 16) (h .1));
+      range = h .0;
+      keeping = keep-each (x .timeout) (x .resends) (x .places) 0 16 (g .0);
+      apart = once-apart (x .places) 0 16 (not-true (twice (x .places) 0 16) (g .1));
     }
 
 pub legal-by : (x : Exchanges) → Rules x → legal x ≡ true
-unfolding legal
+unfolding legal areSound
 legal-by x h =
     simp (h .range, each-keep (x .timeout) (x .resends) (x .places) 0 16 (h .keeping), apart-once (x .places) 0 16 (h .apart))
 
@@ -124,10 +130,20 @@ pub fitting-fits : (ps : List Place) (s : ℕ) (w : Reply) → fitting ps 0 16 s
 unfolding fitting
 fitting-fits ps s w h = first-fits (fitsAt ps s w) 0 16 h
 
-mode-open : (m : Told) → isOpen (modeOf m) ≡ true
-unfolding isOpen
-mode-open told.Send = refl
-mode-open told.Request = refl
+-- the packet writer never says STATE
+writer-other : (rs : List Row) (out : List ℕ) (h : Header) (l : ℕ) → packetVerdict rs out h l .number ≡ STATE → ⊥
+unfolding packetVerdict judgedUnder judgedUnit
+writer-other rs out h l =
+    other-number STATE (roomTests out l 30) _ refl
+    (other-number STATE (fieldTests h) _ refl
+    (other-number STATE ((isCommand (h .command) or-else COMMAND) ∷ []) _ refl (by-bare (isBare (h .command)))))
+  where
+    u : List ℕ
+    u = part out 27 (27 + l)
+
+    by-bare : (b : Bool) → cond b (inOrder (bareTests u) good) (inOrder (unitTests rs (By (h .command)) u) good) .number ≡ STATE → ⊥
+    by-bare true = other-number STATE (bareTests u) good refl (λ e. omega (arith, e))
+    by-bare false = other-number STATE (unitTests rs (By (h .command)) u) good refl (λ e. omega (arith, e))
 
 -- each call keeps the rules, and its verdict is not STATE
 record Well (v : Verdict) (y : Exchanges) : Type 0 where
@@ -135,27 +151,36 @@ record Well (v : Verdict) (y : Exchanges) : Type 0 where
   pub other : v .number ≡ STATE → ⊥
 
 module _ (x : Exchanges) (sound : Sound x) where
-  begin-well : (m : Told) → Well (begun x m .verdict) (begun x m .state)
-  begin-well m = by-test (ltb (lowestFree (x .places) 0 16) 16) refl
-    where
-      by-test : (b : Bool) → ltb (lowestFree (x .places) 0 16) 16 ≡ b → Well (begun x m .verdict) (begun x m .state)
-      by-test false q =
-          let f = found-full x (sound .kept) (ltb-false (lowestFree (x .places) 0 16) 16 q) in
-          let e = begun-refused x m (ap (λ (y : Found). isGood (y .verdict)) f) in
-          subst⁻¹ (λ (y : Begun). Well (y .verdict) (y .state)) e
-          (subst⁻¹ (λ (y : Found). Well (y .verdict) x) f (record { sound = sound; other = λ h. omega (arith, h) }))
-      by-test true q =
-          let h = ltb-true (lowestFree (x .places) 0 16) 16 q in
-          let f = found-good x (sound .kept) h in
-          let e = begun-good x m (ap (λ (y : Found). isGood (y .verdict)) f) in
-          subst⁻¹ (λ (y : Begun). Well (y .verdict) (y .state)) e
-          (subst⁻¹ (λ (y : Found). Well (y .verdict) (entered x (y .place) (y .serial) (modeOf m))) f
-          (record {
-            sound =
-                entered-sound x sound (lowestFree (x .places) 0 16) (serialFor (x .places) 0 16 (x .next)) (modeOf m) h
-                (serial-unopened (x .places) 0 16 (x .next) (omega arith)) (mode-open m);
-            other = λ h. omega (arith, h);
-          }))
+  module _ (a : Asked) where
+    v : Verdict
+    v = begunVerdict rows x (a .out) (a .draft) (a .size)
+
+    begin-other : v .number ≡ STATE → ⊥
+    unfolding v begunVerdict
+    begin-other e =
+        let free = ltb (lowestFree (x .places) 0 16) 16 or-else FULL in
+        other-number STATE (free ∷ []) _ refl (other-number STATE (openingTests (a .out) (a .draft) (a .size)) _ refl (writer-other rows _ _ _))
+        (ap (λ (w : Verdict). w .number) (sym (passed (legal x or-else STATE) (free ∷ []) _ (sound .kept))) ∙ e)
+
+    begin-sound : Sound (begunBy x a .state)
+    unfolding v
+    begin-sound = by-test (isGood v) refl
+      where
+        by-test : (b : Bool) → isGood v ≡ b → Sound (begunBy x a .state)
+        by-test false q = subst⁻¹ (λ (y : Begun). Sound (y .state)) (begun-refused rows x (a .out) (a .draft) (a .size) q) sound
+        by-test true q =
+            let t = taken-by rows x (a .out) (a .draft) (a .size) q in
+            let unopened = subst⁻¹ (λ (s : ℕ). isOpenAs (x .places) 0 16 s ≡ false) (found-serial x (t .find)) (serial-unopened (x .places) 0 16 (x .next) (omega arith)) in
+            subst⁻¹ (λ (y : Begun). Sound (y .state)) (begun-good rows x (a .out) (a .draft) (a .size) q)
+            (entered-sound x sound (found x .place) (found x .serial) (modeOf (a .draft .command)) (found-place x (t .find)) unopened (t .opens))
+
+    begin-well : Well (begunBy x a .verdict) (begunBy x a .state)
+    unfolding v
+    begin-well =
+        record {
+          sound = begin-sound;
+          other = λ e. begin-other (ap (λ (w : Verdict). w .number) (sym (begun-verdict rows x (a .out) (a .draft) (a .size))) ∙ e);
+        }
 
   reply-well : (s : ℕ) (w : Reply) → Well (answered x s w .verdict) (answered x s w .state)
   reply-well s w = by-test (ltb (fitting (x .places) 0 16 s w) 16) refl
@@ -202,7 +227,7 @@ module _ (x : Exchanges) (sound : Sound x) where
 
   well : (c : Call) → Well (verdictOf x c) (after x c)
   unfolding verdictOf after
-  well (begin m) = begin-well m
+  well (begin a) = begin-well a
   well (reply s w) = reply-well s w
   well tick = tick-well
 

@@ -1,4 +1,5 @@
 pub mod Answers
+pub mod Begins
 pub mod Calls
 pub mod Kept
 pub mod Changes
@@ -6,4 +7,6 @@ pub mod Steps
 pub mod Taking
 pub mod Denials
 pub mod Histories
+pub mod Before
+pub mod Written
 pub mod Examples

@@ -17,12 +17,12 @@ use Rattle.place.proofs.Kept.{fits-holds}
 use Rattle.places.specs.Rows.{placeAt, fitsAt, fitting, nothing}
 use Rattle.places.proofs.Rules.{changed, unchanged}
 use Rattle.exchange.specs.declared.Exchanges.{Exchanges}
-use Rattle.exchange.specs.declared.Told.{Told}
 use Rattle.exchange.specs.declared.Begun.{Begun}
 use Rattle.exchange.specs.declared.Replied.{Replied}
 use Rattle.exchange.specs.declared.Ticked.{Ticked}
-use Rattle.exchange.specs.Table.{modeOf, begun, answered, ticking}
-use Rattle.exchange.specs.Calls.{Call, begin, reply, tick, after, Sound}
+use Rattle.exchange.specs.Begins.{modeOf}
+use Rattle.exchange.specs.Table.{answered, ticking}
+use Rattle.exchange.specs.Calls.{Asked, begunBy, Call, begin, reply, tick, after, Sound}
 use Rattle.exchange.specs.Histories.{opens, toldOf, stepBy}
 use Rattle.exchange.proofs.Answers.{answered-stray, answered-good, stepped, ticking-good}
 use Rattle.exchange.proofs.Kept.{rules-of, fitting-fits}
@@ -84,19 +84,19 @@ module _ (x : Exchanges) (sound : Sound x) (k : ℕ) (here : k < 16) where
       let g : isGood (ticking x .verdict) ≡ true = ap (λ (y : Ticked). isGood (y .verdict)) (ticking-good x (sound .kept)) in
       λ i. becomes (tick-each x g k i) (tick-tells x g k i .outcome)
 
-  begin-step : (m : Told) → opens x (begin m) k ≡ false → placeAt (begun x m .state .places) k ≡ placeAt (x .places) k
+  begin-step : (a : Asked) → opens x (begin a) k ≡ false → placeAt (begunBy x a .state .places) k ≡ placeAt (x .places) k
   unfolding opens
-  begin-step m e = by-test (isGood (begun x m .verdict)) refl
+  begin-step a e = by-test (isGood (begunBy x a .verdict)) refl
     where
-      by-test : (b : Bool) → isGood (begun x m .verdict) ≡ b → placeAt (begun x m .state .places) k ≡ placeAt (x .places) k
-      by-test false g = ap (λ (y : Begun). placeAt (y .state .places) k) (begin-refused x m g)
-      by-test true g = begin-others x m g k (eqb-false k (begun x m .place) (simp g at e))
+      by-test : (b : Bool) → isGood (begunBy x a .verdict) ≡ b → placeAt (begunBy x a .state .places) k ≡ placeAt (x .places) k
+      by-test false g = ap (λ (y : Begun). placeAt (y .state .places) k) (begin-refused x a g)
+      by-test true g = begin-others x a g k (eqb-false k (begunBy x a .place) (simp g at e))
 
   -- the place and what is told of it, after a call that does not open it
   pub each-step : (c : Call) → opens x c k ≡ false
       → becomes (placeAt (after x c .places) k) (toldOf x c k) ≡ stepBy (x .timeout) (x .resends) (placeAt (x .places) k) c
   unfolding after toldOf stepBy
-  each-step (begin m) e = ap (λ (q : Place). becomes q NOTHING) (begin-step m e)
+  each-step (begin a) e = ap (λ (q : Place). becomes q NOTHING) (begin-step a e)
   each-step (reply s w) e = reply-step s w
   each-step tick e = tick-step
 
@@ -113,8 +113,8 @@ module _ (x : Exchanges) (sound : Sound x) (k : ℕ) (here : k < 16) where
     reply-passes e = each-step (reply s w) refl ∙ simp e
 
 -- the place that a beginning takes
-pub taken-opened : (x : Exchanges) → Sound x → (m : Told) → isGood (begun x m .verdict) ≡ true
-    → placeAt (begun x m .state .places) (begun x m .place) ≡ opened (begun x m .serial) (modeOf m)
-taken-opened x sound m e =
-    ap (λ (y : Exchanges). placeAt (y .places) (begun x m .place)) (begun-state x m e)
-    ∙ changed (x .places) (begun x m .place) (opened (begun x m .serial) (modeOf m)) (inside x sound (begun x m .place) (begun-inside x m e))
+pub taken-opened : (x : Exchanges) → Sound x → (a : Asked) → isGood (begunBy x a .verdict) ≡ true
+    → placeAt (begunBy x a .state .places) (begunBy x a .place) ≡ opened (begunBy x a .serial) (modeOf (a .draft .command))
+taken-opened x sound a e =
+    ap (λ (y : Exchanges). placeAt (y .places) (begunBy x a .place)) (begun-state x a e)
+    ∙ changed (x .places) (begunBy x a .place) (opened (begunBy x a .serial) (modeOf (a .draft .command))) (inside x sound (begunBy x a .place) (begun-inside x a e))

@@ -2,10 +2,11 @@
 use Prim.Native.Nat.{ℕ, _<_}
 use native.Mathlib.Omega.{arith}
 use mathlib.Core.Bool.{Bool, true, false, true≢false}
-use mathlib.Core.Path.{_≡_, refl, ap, _∙_}
+use mathlib.Core.Path.{_≡_, refl, sym, ap, _∙_}
 use borrow.Author.Tests.{ltb-true, ltb-false}
 use lib.Dec.{ltb}
 use Rattle.octets.proofs.Searches.{first-none, first-absent}
+use Rattle.kinds.specs.Table.{rows}
 use Rattle.verdict.specs.Refusals.{STATE, FULL, STRAY}
 use Rattle.verdict.specs.Orders.{good, refusal, isGood}
 use Rattle.place.specs.declared.Reply.{Reply}
@@ -13,36 +14,42 @@ use Rattle.place.specs.Rules.{isOpen}
 use Rattle.place.specs.Steps.{NOTHING}
 use Rattle.places.specs.Rows.{placeAt, freeAt, lowestFree, fitsAt, fitting}
 use Rattle.exchange.specs.declared.Exchanges.{Exchanges}
-use Rattle.exchange.specs.declared.Told.{Told}
 use Rattle.exchange.specs.declared.Found.{Found}
 use Rattle.exchange.specs.declared.Replied.{Replied}
 use Rattle.exchange.specs.declared.Ticked.{Ticked}
-use Rattle.exchange.specs.Table.{legal, begun, answered, ticking}
-use Rattle.exchange.specs.Calls.{Call, begin, reply, tick, verdictOf, Sound}
-use Rattle.exchange.proofs.Answers.{found-state, found-full, found-good, begun-refused, answered-state, answered-stray, answered-good, ticking-state, ticking-good}
+use Rattle.exchange.specs.Begins.{draftVerdict, unbegun}
+use Rattle.exchange.specs.Table.{legal, answered, ticking}
+use Rattle.exchange.specs.Calls.{Asked, begunBy, Call, begin, reply, tick, verdictOf, Sound}
+use Rattle.exchange.proofs.Answers.{found-state, found-full, found-good, answered-state, answered-stray, answered-good, ticking-state, ticking-good}
+use Rattle.exchange.proofs.Begins.{find-decides, draft-decides, begun-refused, begun-verdict}
 use Rattle.exchange.proofs.Steps.{fitting-is}
 
 module _ (x : Exchanges) (sound : Sound x) where
   -- a beginning, where any place is free and where none is
-  pub begin-taken : (m : Told) (k : ℕ) → k < 16 → isOpen (placeAt (x .places) k .mode) ≡ false → begun x m .verdict ≡ good
-  unfolding begun lowestFree
-  begin-taken m k h e = ap (λ (f : Found). f .verdict) (found-good x (sound .kept) (by-test (ltb (lowestFree (x .places) 0 16) 16) refl))
-    where
-      by-test : (b : Bool) → ltb (lowestFree (x .places) 0 16) 16 ≡ b → lowestFree (x .places) 0 16 < 16
-      by-test true q = ltb-true (lowestFree (x .places) 0 16) 16 q
-      by-test false q =
-          let past = ltb-false (lowestFree (x .places) 0 16) 16 q in
-          let no : freeAt (x .places) k ≡ false = first-none (freeAt (x .places)) 0 16 k (omega arith) (omega (arith, past, h)) in
-          absurd (true≢false (simp e at no))
+  module _ (a : Asked) where
+    pub begin-free : (k : ℕ) → k < 16 → isOpen (placeAt (x .places) k .mode) ≡ false
+        → begunBy x a .verdict ≡ draftVerdict rows x (a .out) (a .draft) (a .size)
+    unfolding lowestFree
+    begin-free k h e =
+        begun-verdict rows x (a .out) (a .draft) (a .size)
+        ∙ sym
+        (draft-decides rows x (a .out) (a .draft) (a .size)
+        (ap (λ (f : Found). isGood (f .verdict)) (found-good x (sound .kept) (by-test (ltb (lowestFree (x .places) 0 16) 16) refl))))
+      where
+        by-test : (b : Bool) → ltb (lowestFree (x .places) 0 16) 16 ≡ b → lowestFree (x .places) 0 16 < 16
+        by-test true q = ltb-true (lowestFree (x .places) 0 16) 16 q
+        by-test false q =
+            let past = ltb-false (lowestFree (x .places) 0 16) 16 q in
+            let no : freeAt (x .places) k ≡ false = first-none (freeAt (x .places)) 0 16 k (omega arith) (omega (arith, past, h)) in
+            absurd (true≢false (simp e at no))
 
-  pub begin-full : (m : Told) → ((k : ℕ) → k < 16 → isOpen (placeAt (x .places) k .mode) ≡ true)
-      → begun x m ≡ record { verdict = refusal FULL 0; place = 0; serial = 0; state = x }
-  unfolding lowestFree
-  begin-full m all =
-      let end : lowestFree (x .places) 0 16 ≡ 16 = first-absent (freeAt (x .places)) 0 16 (λ k l u. simp (all k u)) in
-      let full = found-full x (sound .kept) (omega (arith, end)) in
-      begun-refused x m (ap (λ (f : Found). isGood (f .verdict)) full)
-      ∙ ap (λ (f : Found). record { verdict = f .verdict; place = 0; serial = 0; state = x }) full
+    pub begin-full : ((k : ℕ) → k < 16 → isOpen (placeAt (x .places) k .mode) ≡ true) → begunBy x a ≡ unbegun x (refusal FULL 0)
+    unfolding lowestFree
+    begin-full all =
+        let end : lowestFree (x .places) 0 16 ≡ 16 = first-absent (freeAt (x .places)) 0 16 (λ k l u. simp (all k u)) in
+        let full = ap (λ (f : Found). f .verdict) (found-full x (sound .kept) (omega (arith, end))) in
+        let is = sym (find-decides rows x (a .out) (a .draft) (a .size) (ap isGood full)) ∙ full in
+        begun-refused rows x (a .out) (a .draft) (a .size) (ap isGood is) ∙ ap (unbegun x) is
 
   -- a reply, where it fits a place and where it fits none
   module _ (s : ℕ) (w : Reply) where
@@ -65,7 +72,11 @@ module _ (x : Exchanges) (sound : Sound x) where
 
 -- any call on a table that breaks the rules
 pub broken-refused : (x : Exchanges) → legal x ≡ false → (c : Call) → verdictOf x c ≡ refusal STATE 0
-unfolding verdictOf begun
-broken-refused x e (begin m) = ap (λ (f : Found). f .verdict) (found-state x e)
+unfolding verdictOf
+broken-refused x e (begin a) =
+    let state = ap (λ (f : Found). f .verdict) (found-state x e) in
+    begun-verdict rows x (a .out) (a .draft) (a .size)
+    ∙ sym (find-decides rows x (a .out) (a .draft) (a .size) (ap isGood state))
+    ∙ state
 broken-refused x e (reply s w) = ap (λ (y : Replied). y .verdict) (answered-state x s w e)
 broken-refused x e tick = ap (λ (y : Ticked). y .verdict) (ticking-state x e)

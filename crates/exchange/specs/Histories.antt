@@ -14,24 +14,24 @@ use Rattle.place.specs.Rules.{isOpen}
 use Rattle.place.specs.Steps.{NOTHING, RESENT, becomes, ticked, fits, replied}
 use Rattle.places.specs.Rows.{nothing}
 use Rattle.exchange.specs.declared.Exchanges.{Exchanges}
-use Rattle.exchange.specs.Table.{begun, answered, ticking}
-use Rattle.exchange.specs.Calls.{Call, begin, reply, tick, after}
+use Rattle.exchange.specs.Table.{answered, ticking}
+use Rattle.exchange.specs.Calls.{begunBy, Call, begin, reply, tick, after}
 
--- "Begin .. takes the lowest free place": whether a call opens the place at a number
+-- "it writes the packet .. and only then opens the place": whether a call opens the place at a number
 unfoldable pub opens : Exchanges → Call → ℕ → Bool
-opens x (begin m) k = isGood (begun x m .verdict) && eqb k (begun x m .place)
+opens x (begin a) k = isGood (begunBy x a .verdict) && eqb k (begunBy x a .place)
 opens x (reply s w) k = false
 opens x tick k = false
 
 -- what a call tells of it: a reply answers one place, "The tick answers all sixteen places."
 unfoldable pub toldOf : Exchanges → Call → ℕ → ℕ
-toldOf x (begin m) k = NOTHING
+toldOf x (begin a) k = NOTHING
 toldOf x (reply s w) k = cond (eqb k (answered x s w .place)) (answered x s w .outcome) NOTHING
 toldOf x tick k = getD (ticking x .reports) k nothing .outcome
 
 -- the rule for one place that a call does not open: a reply changes the place that it fits, a tick every place
 unfoldable pub stepBy : ℕ → ℕ → Place → Call → Step
-stepBy t r p (begin m) = becomes p NOTHING
+stepBy t r p (begin a) = becomes p NOTHING
 stepBy t r p (reply s w) = cond (fits s w p) (replied r w p) (becomes p NOTHING)
 stepBy t r p tick = ticked t r p
 
@@ -43,7 +43,7 @@ isDenial BadAnswer = true
 
 -- whether a call denies a place: "Deny fits either, a bad answer .. fits a request", "reaching T acts as deny"
 unfoldable pub denies : ℕ → Place → Call → Bool
-denies t p (begin m) = false
+denies t p (begin a) = false
 denies t p (reply s w) = isDenial w && fits s w p
 denies t p tick = isOpen (p .mode) && eqb (p .age + 1) t
 
@@ -54,7 +54,7 @@ pub record Seen : Type 0 where
   pub resends : Bool
 
 abbrev pub isTick : Call → Bool
-isTick (begin m) = false
+isTick (begin a) = false
 isTick (reply s w) = false
 isTick tick = true
 

@@ -1,3 +1,5 @@
 pub mod Table
+pub mod Begins
+pub mod Before
 pub mod Calls
 pub mod Histories

@@ -1,25 +1,22 @@
 -- The exchange table and its calls (document 01, "Open exchanges"; 001, 6.5).
 -- Assumes nothing.
 use Prim.Native.Nat.{ℕ}
-use mathlib.Core.Bool.{Bool, not, _&&_, cond}
+use mathlib.Core.Bool.{Bool, _&&_, cond}
 use mathlib.Core.List.{List, [], _∷_}
 use lib.Dec.{leb, ltb}
 use lib.ListN.{set, replicate}
 use Rattle.verdict.specs.Refusals.{STATE, SETTING, FULL, STRAY}
-use Rattle.verdict.specs.Orders.{Test, good, isGood, inOrder, _or-else_}
+use Rattle.verdict.specs.Orders.{Test, refusal, good, isGood, inOrder, _or-else_}
 use Rattle.place.specs.declared.Place.{Place}
 use Rattle.place.specs.declared.Reply.{Reply}
-use Rattle.place.specs.Rules.{SEND, REQUEST, free, opened}
+use Rattle.place.specs.Rules.{free, opened}
 use Rattle.place.specs.Steps.{NOTHING, replied}
 use Rattle.exchange.specs.declared.Exchanges.{Exchanges}
-use Rattle.exchange.specs.declared.Told.{Told}
-use Rattle.exchange.specs.declared.Told.the-variants as told
 use Rattle.exchange.specs.declared.Made.{Made}
 use Rattle.exchange.specs.declared.Found.{Found}
-use Rattle.exchange.specs.declared.Begun.{Begun}
 use Rattle.exchange.specs.declared.Replied.{Replied}
 use Rattle.exchange.specs.declared.Ticked.{Ticked}
-use Rattle.places.specs.Rows.{placeAt, lowestFree, twice, allKeep, upward, serialFor, fitting, nothing, swept}
+use Rattle.places.specs.Rows.{placeAt, lowestFree, areSound, upward, serialFor, fitting, nothing, swept}
 
 -- "Timeout T is 1 to 10 ticks, resends R 0 to 9."
 abbrev pub inRange : ℕ → ℕ → Bool
@@ -28,10 +25,7 @@ inRange t r = leb 1 t && leb t 10 && leb r 9
 -- "STATE: T or R out of range, an open place with age T or more or resends above R, two open with one serial, a free place not zero":
 -- a state that is none of these
 unfoldable pub legal : Exchanges → Bool
-legal x =
-    inRange (x .timeout) (x .resends)
-    && allKeep (x .timeout) (x .resends) (x .places) 0 16
-    && not (twice (x .places) 0 16)
+legal x = inRange (x .timeout) (x .resends) && areSound (x .timeout) (x .resends) (x .places) 0 16
 
 -- "A fresh table starts at serial 0"
 abbrev pub blank : ℕ → ℕ → Exchanges
@@ -46,6 +40,9 @@ made t r =
 -- "Exchange calls: STATE, then FULL or STRAY": FULL where all sixteen are open
 abbrev pub beginTests : Exchanges → List Test
 beginTests x = (legal x or-else STATE) ∷ (ltb (lowestFree (x .places) 0 16) 16 or-else FULL) ∷ []
+
+abbrev pub unfound : ℕ → Found
+unfound n = record { verdict = refusal n 0; place = 0; serial = 0 }
 
 -- "takes the lowest free place and the first serial, from the next one upward .., that is not open"
 unfoldable pub found : Exchanges → Found
@@ -65,21 +62,6 @@ placed x ps = record { places = ps; next = x .next; timeout = x .timeout; resend
 abbrev pub entered : Exchanges → ℕ → ℕ → ℕ → Exchanges
 entered x k s m =
     record { places = set (x .places) k (opened s m); next = upward s 1; timeout = x .timeout; resends = x .resends }
-
--- "Begin, told send or request"
-abbrev pub modeOf : Told → ℕ
-modeOf told.Send = SEND
-modeOf told.Request = REQUEST
-
-unfoldable pub begun : Exchanges → Told → Begun
-begun x m =
-    let f = found x in
-    record {
-      verdict = f .verdict;
-      place = f .place;
-      serial = f .serial;
-      state = cond (isGood (f .verdict)) (entered x (f .place) (f .serial) (modeOf m)) x;
-    }
 
 -- STRAY where the reply fits no open exchange
 abbrev pub replyTests : Exchanges → ℕ → Reply → List Test

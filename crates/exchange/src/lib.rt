@@ -1,12 +1,20 @@
-// The exchange table: beginning an exchange, a reply to one, and the tick.
+// The exchange table: beginning an exchange and writing its packet, a reply to one, and the tick.
 ghost use mathlib.Core.Path.{_≡_};
+ghost use mathlib.Core.Bool.{cond};
 ghost use Prim.Native.Nat.{_<_};
-ghost use Rattle.exchange.specs.Table.{inRange, legal, made, modeOf, found, entered, begun, answered, ticking};
+ghost use Rattle.kinds.specs.Table.{rows};
+ghost use Rattle.place.specs.Rules.{isOpen};
+ghost use Rattle.exchange.specs.Table.{inRange, legal, made, unfound, found, entered, answered, ticking};
+ghost use Rattle.exchange.specs.Begins.{headedBy, modeOf, unbegun, begun, begunOutput};
+use label::Label;
+use packet::Header;
+use place::FREE;
 use place::NOTHING;
 use place::Place;
 use place::REQUEST;
 use place::Reply;
 use place::SEND;
+use places::Opening;
 use places::Report;
 use verdict::FULL;
 use verdict::SETTING;
@@ -23,10 +31,14 @@ pub struct Exchanges {
     pub resends: u8,
 }
 
-// What a beginning is told.
-pub enum Told {
-    Send,
-    Request,
+// What the header of a packet needs but its serial, which the table gives.
+#[repr(C)]
+pub struct Draft {
+    pub version: u8,
+    pub label: Label,
+    pub source: [u8; 6],
+    pub destination: [u8; 6],
+    pub command: u8,
 }
 
 #[repr(C)]
@@ -42,10 +54,12 @@ struct Found {
     serial: u16,
 }
 
+// The place that was opened, the length of the packet that was written, and its serial.
 #[repr(C)]
 pub struct Begun {
     pub verdict: Verdict,
     pub place: usize,
+    pub length: usize,
     pub serial: u16,
     pub state: Exchanges,
 }
@@ -108,36 +122,33 @@ impl Exchanges {
             return false;
         }
         let places = self.places;
-        if !places::all_keep(places, 0, Exchanges::PLACES, self.timeout, self.resends) {
-            return false;
-        }
-        !places::twice(places, 0, Exchanges::PLACES)
+        places::are_sound(places, 0, Exchanges::PLACES, self.timeout, self.resends)
     }
 
     // The place and serial that a beginning would take.
     fn find(self) -> Found
         ensures { λ r. ⌜ r ≡ found self ⌝ }
     {
-        if !self.is_legal() {
-            return Found {
-                verdict: Verdict::refused(STATE, 0),
-                place: 0,
-                serial: 0,
-            };
+        if !in_range(self.timeout, self.resends) {
+            return unfound(STATE);
         }
         let places = self.places;
-        let place = places::lowest_free(places, 0, Exchanges::PLACES);
-        if Exchanges::PLACES <= place {
-            return Found {
-                verdict: Verdict::refused(FULL, 0),
-                place: 0,
-                serial: 0,
-            };
-        }
-        Found {
-            verdict: Verdict::good(),
-            place,
-            serial: places::serial_for(places, 0, Exchanges::PLACES, self.next),
+        let opening = places::find_opening(
+            places,
+            0,
+            Exchanges::PLACES,
+            self.timeout,
+            self.resends,
+            self.next,
+        );
+        match opening {
+            Opening::Broken => unfound(STATE),
+            Opening::Full => unfound(FULL),
+            Opening::At(place, serial) => Found {
+                verdict: Verdict::good(),
+                place,
+                serial,
+            },
         }
     }
 
@@ -161,27 +172,42 @@ impl Exchanges {
         }
     }
 
-    // Opens the lowest free place under the first serial that is not open.
-    pub fn begin(self, told: Told) -> Begun
-        ensures { λ r. ⌜ r ≡ begun self told ⌝ }
+    // Writes a packet around the unit that stands from byte 28 of the output, and only then opens the place for it.
+    pub fn begin_and_write(self, out: &mut [u8], draft: Draft, length: usize) -> Begun
+        ensures { λ r. ⌜ r ≡ begun rows self (now (out .entry)) draft length ⌝ }
+        ensures { λ r. ⌜ now (out .exit) ≡ begunOutput rows self (now (out .entry)) draft length ⌝ }
     {
         let found = self.find();
         let verdict = found.verdict;
         if !verdict.is_good() {
-            return Begun {
-                verdict,
-                place: 0,
-                serial: 0,
-                state: self,
-            };
+            return self.unbegun(verdict);
         }
         let place = found.place;
         let serial = found.serial;
+        let command = opening_by(draft.command);
+        let written = output::write(out, draft.header(serial, command), length);
+        if !written.is_good() {
+            return self.unbegun(written);
+        }
+        Begun {
+            verdict: written,
+            place,
+            length: 30 + length,
+            serial,
+            state: self.enter(place, serial, mode_of(draft.command)),
+        }
+    }
+
+    // A beginning that was refused.
+    fn unbegun(self, verdict: Verdict) -> Begun
+        ensures { λ r. ⌜ r ≡ unbegun self verdict ⌝ }
+    {
         Begun {
             verdict,
-            place,
-            serial,
-            state: self.enter(place, serial, told.mode()),
+            place: 0,
+            length: 0,
+            serial: 0,
+            state: self,
         }
     }
 
@@ -255,14 +281,58 @@ impl Exchanges {
     }
 }
 
-impl Told {
-    fn mode(self) -> u8
-        ensures { λ r. ⌜ r ≡ modeOf self ⌝ }
+impl Draft {
+    // The header under a serial and a command.
+    fn header(self, serial: u16, command: u8) -> Header
+        ensures { λ r. ⌜ r ≡ headedBy self serial command ⌝ }
     {
-        match self {
-            Told::Send => SEND,
-            Told::Request => REQUEST,
+        let label = self.label;
+        let source = self.source;
+        let destination = self.destination;
+        Header {
+            serial,
+            version: self.version,
+            label,
+            source,
+            destination,
+            command,
         }
+    }
+}
+
+// The mode that a command opens.
+fn mode_of(command: u8) -> u8
+    ensures { λ r. ⌜ r ≡ modeOf command ⌝ }
+{
+    if command == 1 {
+        return SEND;
+    }
+    if command == 2 {
+        return SEND;
+    }
+    if command == 4 {
+        return REQUEST;
+    }
+    FREE
+}
+
+// A command that opens an exchange, and 0 for any other: the packet writer refuses that as COMMAND, in its own order.
+fn opening_by(command: u8) -> u8
+    ensures { λ r. ⌜ r ≡ cond (isOpen (modeOf command)) command 0 ⌝ }
+{
+    if place::is_open(mode_of(command)) {
+        return command;
+    }
+    0
+}
+
+fn unfound(number: u8) -> Found
+    ensures { λ r. ⌜ r ≡ unfound number ⌝ }
+{
+    Found {
+        verdict: Verdict::refused(number, 0),
+        place: 0,
+        serial: 0,
     }
 }
 

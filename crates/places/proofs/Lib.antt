@@ -3,6 +3,7 @@ pub mod Serials
 pub mod Rules
 pub mod Held
 pub mod Ends
+pub mod Openings
 mod Loops
 mod Sweeping
 mod Hitting

@@ -1,15 +1,16 @@
 -- The serials that are open, as a row of numbers that is searched at once: at each place the serial under which it is open.
 -- Assumes nothing.
 use Prim.Native.Nat.{ℕ, _<_}
-use mathlib.Core.Bool.{Bool, _&&_, cond}
+use mathlib.Core.Bool.{Bool, true, not, _&&_, cond}
 use mathlib.Core.List.{List}
 use mathlib.Core.Path.{_≡_}
 use lib.Dec.{eqb, leb, ltb}
 use lib.ListN.{getD}
-use Rattle.octets.specs.Searches.{anyFits}
+use Rattle.octets.specs.Searches.{firstFit, anyFits}
 use Rattle.place.specs.declared.Place.{Place}
 use Rattle.place.specs.Rules.{isOpen}
-use Rattle.places.specs.Rows.{placeAt}
+use Rattle.places.specs.declared.Seen.{Seen}
+use Rattle.places.specs.Rows.{placeAt, lowestFree, areSound, upward}
 
 -- no serial: the number after the last
 abbrev pub NONE : ℕ
@@ -27,3 +28,13 @@ standsAt row s k = eqb (getD row k 0) s
 
 unfoldable pub standsIn : List ℕ → ℕ → Bool
 standsIn row s = anyFits (standsAt row s) 0 16
+
+-- the first serial from the next one upward that does not stand in the row, of so many and the one after them
+unfoldable pub serialIn : List ℕ → ℕ → ℕ → ℕ
+serialIn row most next = upward next (firstFit (λ j. not (standsIn row (upward next j))) 0 most)
+
+-- what one pass over the places tells; where the rules are broken, only that they are
+pub record Surveyed (t r : ℕ) (ps : List Place) (from to : ℕ) (s : Seen) : Type 0 where
+  pub sound : s .sound ≡ areSound t r ps from to
+  pub lowest : s .sound ≡ true → s .lowest ≡ lowestFree ps from to
+  pub held : s .sound ≡ true → Held (s .row) ps from to

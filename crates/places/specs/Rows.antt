@@ -1,14 +1,17 @@
 -- The searches over a row of places of any length, from one number up to another (document 01, "Open exchanges"; 001, 6.5).
 -- Assumes nothing.
 use Prim.Native.Nat.{ℕ, _+_, _-_, _%_}
-use mathlib.Core.Bool.{Bool, not, _&&_}
+use mathlib.Core.Bool.{Bool, not, _&&_, cond}
 use mathlib.Core.List.{List, map}
+use lib.Dec.{ltb}
 use lib.ListN.{getD}
 use Rattle.octets.specs.Searches.{firstFit, anyFits, allFit}
 use Rattle.place.specs.declared.Place.{Place}
 use Rattle.place.specs.declared.Reply.{Reply}
 use Rattle.place.specs.Rules.{free, isOpen, holds, keeps}
 use Rattle.place.specs.Steps.{NOTHING, ticked, fits}
+use Rattle.places.specs.declared.Opening.{Opening}
+use Rattle.places.specs.declared.Opening.the-variants.{Broken, Full, At}
 use Rattle.places.specs.declared.Report.{Report}
 use Rattle.places.specs.declared.Swept.{Swept}
 
@@ -49,6 +52,11 @@ twice ps from to = anyFits (doubleAt ps to) from (to - from)
 unfoldable pub allKeep : ℕ → ℕ → List Place → ℕ → ℕ → Bool
 allKeep t r ps from to = allFit (keepsAt t r ps) from (to - from)
 
+-- the state's rules for the places from one number up to another: "an open place with age T or more or resends above R, two open with one
+-- serial, a free place not zero", none of these
+unfoldable pub areSound : ℕ → ℕ → List Place → ℕ → ℕ → Bool
+areSound t r ps from to = allKeep t r ps from to && not (twice ps from to)
+
 -- "from the next one upward and past 65,535 to 0": the serial so many after another
 abbrev pub upward : ℕ → ℕ → ℕ
 upward s j = (s + j) % 65536
@@ -59,6 +67,11 @@ unopened ps from to next j = not (isOpenAs ps from to (upward next j))
 -- "the first serial .. that is not open": no more serials are open than there are places, so this many are tried at most
 unfoldable pub serialFor : List Place → ℕ → ℕ → ℕ → ℕ
 serialFor ps from to next = upward next (firstFit (unopened ps from to next) 0 (to - from))
+
+-- "takes the lowest free place and the first serial, from the next one upward .., that is not open": what a beginning finds
+unfoldable pub opening : ℕ → ℕ → List Place → ℕ → ℕ → ℕ → Opening
+opening t r ps from to next =
+    cond (areSound t r ps from to) (cond (ltb (lowestFree ps from to) to) (At (lowestFree ps from to) (serialFor ps from to next)) Full) Broken
 
 -- the place that a reply fits; the end of the row where it fits none
 unfoldable pub fitting : List Place → ℕ → ℕ → ℕ → Reply → ℕ

@@ -1,10 +1,10 @@
 // The searches over the places from one number up to another, and the tick of all of them.
 ghost use mathlib.Core.Path.{_≡_};
-ghost use mathlib.Core.Bool.{_&&_};
-ghost use Prim.Native.Nat.{_<_, min};
+ghost use mathlib.Core.Bool.{_&&_, cond};
+ghost use Prim.Native.Nat.{_<_, min, max};
 ghost use Rattle.place.specs.Rules.{isOpen};
-ghost use Rattle.places.specs.Rows.{placeAt, lowestFree, twice, allKeep, upward, serialFor, fitting, swept};
-ghost use Rattle.places.specs.Held.{heldBy, Held, standsIn};
+ghost use Rattle.places.specs.Rows.{areSound, opening, upward, fitting, swept};
+ghost use Rattle.places.specs.Held.{heldBy, standsIn, serialIn, Surveyed};
 use place::NOTHING;
 use place::Place;
 use place::Reply;
@@ -19,26 +19,24 @@ pub struct Report {
     pub serial: u16,
 }
 
+// What a beginning finds: that the rules are broken, that no place is free, or a place and a serial.
+pub enum Opening {
+    Broken,
+    Full,
+    At(usize, u16),
+}
+
+// What one pass tells: whether the places keep the rules, and where they do the lowest free one and the serials that are open.
+struct Seen {
+    sound: bool,
+    lowest: usize,
+    row: [u32; 16],
+}
+
 // What a tick makes of all places, and tells of them.
 pub struct Swept {
     pub places: [Place; 16],
     pub reports: [Report; 16],
-}
-
-// The lowest free place, `to` where none is free.
-pub fn lowest_free(places: [Place; 16], from: usize, to: usize) -> usize
-    ensures { λ r. ⌜ r ≡ lowestFree places from to ⌝ }
-{
-    let end = lower(to, 16);
-    let mut i = from;
-    while i < end {
-        let p = places[i];
-        if !place::is_open(p.mode) {
-            return i;
-        }
-        i = i + 1;
-    }
-    i
 }
 
 // The serial under which a place is open, and a number that is no serial where it is not.
@@ -67,23 +65,6 @@ fn stands_in(row: &[u32; 16], serial: u16) -> bool
     hit
 }
 
-// Whether two are open with one serial: from the last on, each against those behind it.
-pub fn twice(places: [Place; 16], from: usize, to: usize) -> bool
-    ensures { λ r. ⌜ r ≡ twice places from to ⌝ }
-{
-    let mut row = [NONE; 16];
-    let mut i = lower(to, 16);
-    while from < i {
-        i = i - 1;
-        let p = places[i];
-        if is_double(&row, p) {
-            return true;
-        }
-        row[i] = held_by(p);
-    }
-    false
-}
-
 // Whether a place is open under a serial that stands in the row.
 fn is_double(row: &[u32; 16], p: Place) -> bool
     ensures { λ r. ⌜ r ≡ isOpen (p .mode) && standsIn (now (row .entry)) (p .serial) ⌝ }
@@ -95,20 +76,6 @@ fn is_double(row: &[u32; 16], p: Place) -> bool
     stands_in(row, p.serial)
 }
 
-// The serials that are open, each at its place.
-fn open_serials(places: [Place; 16], from: usize, to: usize) -> [u32; 16]
-    ensures { λ r. ⌜ Held r places from to ⌝ }
-{
-    let mut row = [NONE; 16];
-    let mut i = lower(to, 16);
-    while from < i {
-        i = i - 1;
-        let p = places[i];
-        row[i] = held_by(p);
-    }
-    row
-}
-
 fn lower(x: usize, y: usize) -> usize
     ensures { λ r. ⌜ r ≡ min x y ⌝ }
 {
@@ -118,20 +85,23 @@ fn lower(x: usize, y: usize) -> usize
     y
 }
 
-// Whether every place keeps the rules for a place.
-pub fn all_keep(places: [Place; 16], from: usize, to: usize, timeout: u8, resends: u8) -> bool
-    ensures { λ r. ⌜ r ≡ allKeep timeout resends places from to ⌝ }
+fn higher(x: usize, y: usize) -> usize
+    ensures { λ r. ⌜ r ≡ max x y ⌝ }
 {
-    let end = lower(to, 16);
-    let mut i = from;
-    while i < end {
-        let p = places[i];
-        if !p.keeps(timeout, resends) {
-            return false;
-        }
-        i = i + 1;
+    if x < y {
+        return y;
     }
-    true
+    x
+}
+
+// The lower of a place, where it is free, and the lowest free one behind it.
+fn freer(p: Place, i: usize, lowest: usize) -> usize
+    ensures { λ r. ⌜ r ≡ cond (isOpen (p .mode)) lowest i ⌝ }
+{
+    if place::is_open(p.mode) {
+        return lowest;
+    }
+    i
 }
 
 // The serial after another.
@@ -144,25 +114,85 @@ pub fn after(serial: u16) -> u16
     serial + 1
 }
 
-// The first serial from the next one upward that is not open.
-pub fn serial_for(places: [Place; 16], from: usize, to: usize, next: u16) -> u16
-    ensures { λ r. ⌜ r ≡ serialFor places from to next ⌝ }
+// The first serial from the next one upward that does not stand in a row, of so many and the one after them.
+fn serial_in(row: &[u32; 16], most: usize, next: u16) -> u16
+    ensures { λ r. ⌜ r ≡ serialIn (now (row .entry)) most next ⌝ }
 {
-    if to <= from {
-        return next;
-    }
-    let row = open_serials(places, from, to);
-    let most = to - from;
     let mut serial = next;
     let mut tried: usize = 0;
     while tried < most {
-        if !stands_in(&row, serial) {
+        if !stands_in(row, serial) {
             return serial;
         }
         serial = after(serial);
         tried = tried + 1;
     }
     serial
+}
+
+// One pass from the last place on, each tested by itself and against those behind it.
+fn survey(places: [Place; 16], from: usize, to: usize, timeout: u8, resends: u8) -> Seen
+    ensures { λ r. ⌜ Surveyed timeout resends places from to r ⌝ }
+{
+    let mut row = [NONE; 16];
+    let mut i = lower(to, 16);
+    let mut lowest = higher(from, i);
+    while from < i {
+        i = i - 1;
+        let p = places[i];
+        if !p.keeps(timeout, resends) {
+            return Seen {
+                sound: false,
+                lowest,
+                row,
+            };
+        }
+        if is_double(&row, p) {
+            return Seen {
+                sound: false,
+                lowest,
+                row,
+            };
+        }
+        row[i] = held_by(p);
+        lowest = freer(p, i, lowest);
+    }
+    Seen {
+        sound: true,
+        lowest,
+        row,
+    }
+}
+
+// Whether every place keeps the rules for a place, and no two are open with one serial.
+pub fn are_sound(places: [Place; 16], from: usize, to: usize, timeout: u8, resends: u8) -> bool
+    ensures { λ r. ⌜ r ≡ areSound timeout resends places from to ⌝ }
+{
+    let seen = survey(places, from, to, timeout, resends);
+    seen.sound
+}
+
+// The lowest free place and the first serial that is not open, in places that keep the rules.
+pub fn find_opening(
+    places: [Place; 16],
+    from: usize,
+    to: usize,
+    timeout: u8,
+    resends: u8,
+    next: u16,
+) -> Opening
+    ensures { λ r. ⌜ r ≡ opening timeout resends places from to next ⌝ }
+{
+    let seen = survey(places, from, to, timeout, resends);
+    if !seen.sound {
+        return Opening::Broken;
+    }
+    let place = seen.lowest;
+    if to <= place {
+        return Opening::Full;
+    }
+    let row = seen.row;
+    Opening::At(place, serial_in(&row, to - from, next))
 }
 
 // The place that a reply fits, `to` where it fits none.

@@ -18,20 +18,20 @@ ghost use Rattle.reply.specs.Replies.{answered, writtenReply};
 ghost use Rattle.reading.specs.Calls.{fresh, called};
 ghost use Rattle.receiver.specs.Receivers.{lent, servedOf};
 ghost use Rattle.devices.specs.Tables.{ofSystems, ofParts, judgement, foundPlace, keyBytes};
-ghost use Rattle.exchange.specs.declared.Told.the-variants.{Send, Request};
 ghost use Rattle.place.specs.declared.Reply.the-variants.{Confirm, Answer, Deny, BadAnswer};
 ghost use Rattle.exchange.specs.Table as exchanges;
+ghost use Rattle.exchange.specs.Begins.{begun, begunOutput};
 ghost use Rattle.taking.specs.Takes.{taken};
 ghost use Rattle.trawnosz.specs.Calls.{servedTo, answerTo};
 ghost use Rattle.trawnosz.specs.Releases.{release};
 use devices::Judgement;
 use devices::PartKey;
 use exchange::Begun;
+use exchange::Draft;
 use exchange::Exchanges;
 use exchange::Made;
 use exchange::Replied;
 use exchange::Ticked;
-use exchange::Told;
 use fields::Fields;
 use label::Label;
 use packet::Header;
@@ -42,7 +42,7 @@ use verdict::Part;
 use verdict::Verdict;
 
 // The release's number, as the file RELEASE has it.
-const RELEASE: [u8; 3] = *b"1.0";
+const RELEASE: [u8; 3] = *b"1.1";
 
 // The answer of a receiver's call.
 #[repr(C)]
@@ -230,17 +230,16 @@ pub extern "C" fn trawnosz_exchanges_fresh(timeout: u8, resends: u8) -> Made
 }
 
 #[no_mangle]
-pub extern "C" fn trawnosz_begin_send(table: Exchanges) -> Begun
-    ensures { λ r. ⌜ r ≡ exchanges.begun table Send ⌝ }
+pub extern "C" fn trawnosz_begin_and_write(
+    table: Exchanges,
+    out: &mut [u8],
+    draft: Draft,
+    length: usize,
+) -> Begun
+    ensures { λ r. ⌜ r ≡ begun rows table (now (out .entry)) draft length ⌝ }
+    ensures { λ r. ⌜ now (out .exit) ≡ begunOutput rows table (now (out .entry)) draft length ⌝ }
 {
-    table.begin(Told::Send)
-}
-
-#[no_mangle]
-pub extern "C" fn trawnosz_begin_request(table: Exchanges) -> Begun
-    ensures { λ r. ⌜ r ≡ exchanges.begun table Request ⌝ }
-{
-    table.begin(Told::Request)
+    table.begin_and_write(out, draft, length)
 }
 
 #[no_mangle]

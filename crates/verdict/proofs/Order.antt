@@ -4,6 +4,8 @@ use Prim.Native.Nat.{ℕ}
 use mathlib.Core.Bool.{Bool, true, false, not, cond, _&&_, true≢false, false≢true}
 use mathlib.Core.Path.{_≡_, refl, sym, ap, _∙_}
 use mathlib.Core.List.{List, [], _∷_, _++_}
+use borrow.Author.Tests.{eqb-false}
+use lib.Dec.{eqb}
 use Rattle.verdict.specs.declared.Verdict.{Verdict}
 use Rattle.verdict.specs.Orders.{Test, inOrder, good, isGood, noPart, partBy, Held, refusing}
 
@@ -99,6 +101,23 @@ refusing-append (t ∷ ts) us p q = by-test (isGood (t .refused)) p (refusing-ap
 -- tests that all held give a good verdict
 pub held-good : (ts : List Test) → Held ts → isGood (inOrder ts good) ≡ true
 held-good ts h = ap isGood (all-passed ts good h)
+
+-- no test refuses by a number
+abbrev pub lacks : ℕ → List Test → Bool
+lacks n [] = true
+lacks n (t ∷ ts) = not (eqb (t .refused .number) n) && lacks n ts
+
+-- so where what comes after them does not either, the order does not
+pub other-number : (n : ℕ) (ts : List Test) (rest : Verdict) → lacks n ts ≡ true → (rest .number ≡ n → ⊥) → inOrder ts rest .number ≡ n → ⊥
+unfolding inOrder
+other-number n [] rest h r e = r e
+other-number n (t ∷ ts) rest h r e = by-test (t .holds) (eqb (t .refused .number) n) refl h (λ k. other-number n ts rest k r) e
+  where
+    by-test : (b q : Bool) → eqb (t .refused .number) n ≡ q → not q && lacks n ts ≡ true → (lacks n ts ≡ true → inOrder ts rest .number ≡ n → ⊥)
+        → cond b (inOrder ts rest) (t .refused) .number ≡ n → ⊥
+    by-test b true q h ih e = absurd (false≢true h)
+    by-test true false q h ih e = ih h e
+    by-test false false q h ih e = eqb-false (t .refused .number) n q e
 
 -- a part's verdict is the one that it was made by, and a refused part stands nowhere
 pub part-verdict : (v : Verdict) (from to : ℕ) (b : Bool) → isGood (partBy v from to .verdict) ≡ b → isGood v ≡ b

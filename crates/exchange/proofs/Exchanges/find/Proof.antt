@@ -1,4 +1,5 @@
 -- `exchange::find` meets its contract: each answer by the tests that led there. Assumes nothing.
+use borrow.Author.Needs.{needs}
 use Rattle.octets.proofs.Asked.{unasked}
 use Rattle.exchange.proofs.Calls.{finding}
 use Rattle.exchange.proofs.Exchanges.find.Statement.{statement}
@@ -10,10 +11,14 @@ find-spec =
     (tie.spec
     unasked
     unasked
-    (λ c. search finding depth 6)  -- !self.is_legal()
+    (λ c. search finding)  -- !in_range(self.timeout, self.resends)
     unasked
+    (λ c. search needs)
     unasked
-    (λ c. search finding depth 6)  -- Exchanges::PLACES <= place
+    (λ c. search needs)
     unasked
+    (λ c. search needs)
     unasked
-    (λ c. search finding depth 6))
+    (λ c. search finding)  -- Opening::Broken
+    (λ c. search finding)  -- Opening::Full
+    (λ c. search finding))

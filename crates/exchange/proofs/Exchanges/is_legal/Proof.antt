@@ -1,4 +1,4 @@
--- `exchange::is_legal` meets its contract by its three tests. Assumes nothing.
+-- `exchange::is_legal` meets its contract by its two tests. Assumes nothing.
 use Rattle.octets.proofs.Asked.{unasked}
 use Rattle.exchange.proofs.Calls.{keeping}
 use Rattle.exchange.proofs.Exchanges.is_legal.Statement.{statement}
@@ -10,7 +10,5 @@ is-legal-spec =
     (tie.spec
     unasked
     (λ c. search keeping depth 6)  -- !in_range(self.timeout, self.resends)
-    unasked
-    (λ c. search keeping depth 6)  -- !places::all_keep(..)
     unasked
     (λ c. search keeping depth 6))

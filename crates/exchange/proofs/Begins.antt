@@ -1,0 +1,129 @@
+-- Beginning and writing as one: what its verdict tells, its answer and its output by that verdict, and that the packet writer says of the header
+-- it is handed what the order says. Assumes nothing.
+use Prim.Native.Nat.{ℕ, _+_, _≤_}
+use mathlib.Core.Bool.{Bool, true, false, cond}
+use mathlib.Core.List.{List, [], _∷_}
+use mathlib.Core.Path.{_≡_, refl, sym, ap, _∙_}
+use borrow.Author.Tests.{eq-eqb, ne-eqb}
+use Rattle.octets.proofs.Flags.{by-test}
+use Rattle.kinds.specs.declared.Row.{Row}
+use Rattle.output.specs.Writing.{roomTests, fieldTests, packetVerdict, writtenPacket}
+use Rattle.output.proofs.Judging.{packet-roomy}
+use Rattle.packet.specs.declared.Header.{Header}
+use Rattle.place.specs.Rules.{FREE, SEND, REQUEST, isOpen}
+use Rattle.verdict.specs.declared.Verdict.{Verdict}
+use Rattle.verdict.specs.Orders.{Test, _or-else_, good, refusal, isGood, inOrder}
+use Rattle.verdict.specs.Refusals.{COMMAND}
+use Rattle.verdict.proofs.Order.{passed, failed, joined, good-held, held-good, stays, goes-on}
+use Rattle.exchange.specs.declared.Begun.{Begun}
+use Rattle.exchange.specs.declared.Draft.{Draft}
+use Rattle.exchange.specs.declared.Exchanges.{Exchanges}
+use Rattle.exchange.specs.declared.Found.{Found}
+use Rattle.exchange.specs.Begins.{headedBy, headed, modeOf, openingTests, draftVerdict, begunVerdict, unbegun, begun, begunOutput}
+use Rattle.exchange.specs.Table.{beginTests, found, entered}
+
+-- the mode that a command opens
+module _ (c : ℕ) where
+  pub by-control : c ≡ 1 → SEND ≡ modeOf c
+  unfolding modeOf
+  by-control e = simp (eq-eqb c 1 e)
+
+  pub by-send : (c ≡ 1 → ⊥) → c ≡ 2 → SEND ≡ modeOf c
+  unfolding modeOf
+  by-send n e = simp (ne-eqb c 1 n, eq-eqb c 2 e)
+
+  pub by-request : (c ≡ 1 → ⊥) → (c ≡ 2 → ⊥) → c ≡ 4 → REQUEST ≡ modeOf c
+  unfolding modeOf
+  by-request n m e = simp (ne-eqb c 1 n, ne-eqb c 2 m, eq-eqb c 4 e)
+
+  pub by-none : (c ≡ 1 → ⊥) → (c ≡ 2 → ⊥) → (c ≡ 4 → ⊥) → FREE ≡ modeOf c
+  unfolding modeOf
+  by-none n m k = simp (ne-eqb c 1 n, ne-eqb c 2 m, ne-eqb c 4 k)
+
+pub ruleset opening = (by-control, by-send, by-request, by-none)
+
+-- what the packet writer says of a draft: of one whose command opens an exchange its own verdict, of any other LENGTH, ROOM or COMMAND
+module _ (rs : List Row) (out : List ℕ) (d : Draft) (l s : ℕ) where
+  abbrev rest : Header → Verdict
+  rest h = packetVerdict rs out h l
+
+  abbrev command : Test
+  command = isOpen (modeOf (d .command)) or-else COMMAND
+
+  pub opens-so : isOpen (modeOf (d .command)) ≡ true → inOrder (openingTests out d l) (rest (headed d s)) ≡ rest (headed d s)
+  unfolding packetVerdict inOrder
+  opens-so o =
+      joined (roomTests out l 30) (command ∷ []) (rest (headed d s))
+      ∙ ap (inOrder (roomTests out l 30)) (passed command [] (rest (headed d s)) o)
+      ∙ by-test (isGood (inOrder (roomTests out l 30) good))
+      (λ g. goes-on (roomTests out l 30) (rest (headed d s)) refl g)
+      (λ b. stays (roomTests out l 30) (rest (headed d s)) b ∙ sym (stays (roomTests out l 30) _ b))
+
+  refused-so : isOpen (modeOf (d .command)) ≡ false → inOrder (openingTests out d l) (rest (headed d s)) ≡ rest (headedBy d s 0)
+  unfolding packetVerdict inOrder
+  refused-so o =
+      joined (roomTests out l 30) (command ∷ []) (rest (headed d s))
+      ∙ ap (inOrder (roomTests out l 30)) (failed command [] (rest (headed d s)) o)
+
+  pub draft-judged : (c : ℕ) → c ≡ cond (isOpen (modeOf (d .command))) (d .command) 0
+      → packetVerdict rs out (headedBy d s c) l ≡ inOrder (openingTests out d l) (packetVerdict rs out (headed d s) l)
+  draft-judged c e =
+      by-test (isOpen (modeOf (d .command)))
+      (λ o. ap (λ (k : ℕ). rest (headedBy d s k)) (e ∙ simp o) ∙ sym (opens-so o))
+      (λ o. ap (λ (k : ℕ). rest (headedBy d s k)) (e ∙ simp o) ∙ sym (refused-so o))
+
+module _ (rs : List Row) (x : Exchanges) (out : List ℕ) (d : Draft) (l : ℕ) where
+  -- the order by its two halves
+  pub find-decides : isGood (found x .verdict) ≡ false → found x .verdict ≡ begunVerdict rs x out d l
+  unfolding begunVerdict found
+  find-decides e = sym (stays (beginTests x) (draftVerdict rs x out d l) e)
+
+  pub draft-decides : isGood (found x .verdict) ≡ true → draftVerdict rs x out d l ≡ begunVerdict rs x out d l
+  unfolding begunVerdict found
+  draft-decides g = sym (goes-on (beginTests x) (draftVerdict rs x out d l) refl g)
+
+  -- what a good verdict tells: a place is free, the command opens an exchange, and the packet writer takes the packet
+  pub record Taken : Type 0 where
+    pub find : isGood (found x .verdict) ≡ true
+    pub opens : isOpen (modeOf (d .command)) ≡ true
+    pub writes : isGood (packetVerdict rs out (headed d (found x .serial)) l) ≡ true
+
+  pub taken-by : isGood (begunVerdict rs x out d l) ≡ true → Taken
+  unfolding begunVerdict found
+  taken-by g =
+      let a = good-held (beginTests x) (draftVerdict rs x out d l) refl g in
+      let b = good-held (openingTests out d l) (packetVerdict rs out (headed d (found x .serial)) l) refl (a .1) in
+      record { find = held-good (beginTests x) (a .0); opens = b .0 .1 .1 .0; writes = b .1 }
+
+  pub taken-good : Taken → begunVerdict rs x out d l ≡ packetVerdict rs out (headed d (found x .serial)) l
+  taken-good t = sym (draft-decides (t .find)) ∙ opens-so rs out d l (found x .serial) (t .opens)
+
+  -- the answer and the output
+  pub begun-refused : isGood (begunVerdict rs x out d l) ≡ false → begun rs x out d l ≡ unbegun x (begunVerdict rs x out d l)
+  unfolding begun
+  begun-refused e = simp e
+
+  pub output-kept : isGood (begunVerdict rs x out d l) ≡ false → begunOutput rs x out d l ≡ out
+  unfolding begunOutput
+  output-kept e = simp e
+
+  abbrev pub opening-at : Verdict → Found → Begun
+  opening-at v f =
+      record { verdict = v; place = f .place; length = 30 + l; serial = f .serial; state = entered x (f .place) (f .serial) (modeOf (d .command)) }
+
+  pub begun-good : isGood (begunVerdict rs x out d l) ≡ true → begun rs x out d l ≡ opening-at (begunVerdict rs x out d l) (found x)
+  unfolding begun
+  begun-good g = simp g
+
+  pub output-written : isGood (begunVerdict rs x out d l) ≡ true → begunOutput rs x out d l ≡ writtenPacket rs out (headed d (found x .serial)) l
+  unfolding begunOutput
+  output-written g = simp g
+
+  pub begun-verdict : begun rs x out d l .verdict ≡ begunVerdict rs x out d l
+  begun-verdict =
+      by-test (isGood (begunVerdict rs x out d l))
+      (λ g. ap (λ (y : Begun). y .verdict) (begun-good g))
+      (λ e. ap (λ (y : Begun). y .verdict) (begun-refused e))
+
+  pub begun-few : isGood (begunVerdict rs x out d l) ≡ true → l ≤ 1024
+  begun-few g = packet-roomy rs out (headed d (found x .serial)) l (taken-by g .writes) .0

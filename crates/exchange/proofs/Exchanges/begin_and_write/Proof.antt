@@ -1,0 +1,42 @@
+-- `exchange::begin_and_write` meets its contract: what was found decides, then what the packet writer said. Assumes nothing.
+use borrow.Author.Needs.{needs}
+use Rattle.octets.proofs.Asked.{unasked}
+use Rattle.exchange.proofs.Calls.{beginning}
+use Rattle.exchange.proofs.Exchanges.begin_and_write.Statement.{statement}
+use Rattle.exchange.proofs.Exchanges.begin_and_write.Tie as tie
+
+returns : tie.Need-returns
+returns c = (search beginning, search beginning)
+
+returns-2 : tie.Need-returns-2
+returns-2 c = (search beginning, search beginning)
+
+add-t16 : tie.Need-add-t16
+add-t16 c = search beginning
+
+enter-requires : tie.Need-enter-requires
+enter-requires c κs = search beginning
+
+returns-3 : tie.Need-returns-3
+returns-3 c = (search beginning, search beginning)
+
+pub begin-and-write-spec : {M : Type 1} → statement M
+begin-and-write-spec =
+    tie.close
+    (tie.spec
+    unasked
+    unasked
+    unasked
+    returns  -- !verdict.is_good()
+    unasked
+    unasked
+    unasked
+    unasked
+    unasked
+    (λ c. search needs)
+    returns-2  -- !written.is_good()
+    add-t16
+    unasked
+    enter-requires
+    (λ c. search needs)
+    returns-3)
