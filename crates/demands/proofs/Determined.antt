@@ -48,16 +48,15 @@ use Rattle.place.proofs.is_open.Reads as place-is-open
 use Rattle.place.proofs.awaits.Reads as place-awaits
 use Rattle.place.proofs.all_outcomes.Reads as place-all-outcomes
 use Rattle.place.proofs.Place.free.Reads as place-place-free
-use Rattle.place.proofs.Place.holds.Reads as place-place-holds
 use Rattle.place.proofs.Place.keeps.Reads as place-place-keeps
 use Rattle.place.proofs.Place.denied.Reads as place-place-denied
 use Rattle.place.proofs.Place.ticked.Reads as place-place-ticked
-use Rattle.place.proofs.Place.fits.Reads as place-place-fits
+use Rattle.place.proofs.Place.is_zero.Reads as place-place-is-zero
 use Rattle.place.proofs.Place.replied.Reads as place-place-replied
 use Rattle.places.proofs.are_sound.Reads as places-are-sound
 use Rattle.places.proofs.find_opening.Reads as places-find-opening
 use Rattle.places.proofs.after.Reads as places-after
-use Rattle.places.proofs.fitting.Reads as places-fitting
+use Rattle.places.proofs.find_fitting.Reads as places-find-fitting
 use Rattle.places.proofs.tick_all.Reads as places-tick-all
 use Rattle.exchange.proofs.Exchanges.fresh.Reads as exchange-exchanges-fresh
 use Rattle.exchange.proofs.Exchanges.reply.Reads as exchange-exchanges-reply
@@ -206,9 +205,6 @@ place-awaits-determined κs x r s a b = a ∙ sym b
 pub place-place-free-determined : (κs : _) (x : _) (r s : _) → place-place-free.Post κs x r x → place-place-free.Post κs x s x → r ≡ s
 place-place-free-determined κs x r s a b = a ∙ sym b
 
-pub place-place-holds-determined : (κs : _) (x : _) (r s : _) → place-place-holds.Post κs x r x → place-place-holds.Post κs x s x → r ≡ s
-place-place-holds-determined κs x r s a b = a ∙ sym b
-
 pub place-place-keeps-determined : (κs : _) (x : _) (r s : _) → place-place-keeps.Post κs x r x → place-place-keeps.Post κs x s x → r ≡ s
 place-place-keeps-determined κs x r s a b = a ∙ sym b
 
@@ -218,8 +214,8 @@ place-place-denied-determined κs x r s a b = a ∙ sym b
 pub place-place-ticked-determined : (κs : _) (x : _) (r s : _) → place-place-ticked.Post κs x r x → place-place-ticked.Post κs x s x → r ≡ s
 place-place-ticked-determined κs x r s a b = a ∙ sym b
 
-pub place-place-fits-determined : (κs : _) (x : _) (r s : _) → place-place-fits.Post κs x r x → place-place-fits.Post κs x s x → r ≡ s
-place-place-fits-determined κs x r s a b = a ∙ sym b
+pub place-place-is-zero-determined : (κs : _) (x : _) (r s : _) → place-place-is-zero.Post κs x r x → place-place-is-zero.Post κs x s x → r ≡ s
+place-place-is-zero-determined κs x r s a b = a ∙ sym b
 
 pub place-place-replied-determined : (κs : _) (x : _) (r s : _) → place-place-replied.Post κs x r x → place-place-replied.Post κs x s x → r ≡ s
 place-place-replied-determined κs x r s a b = a ∙ sym b
@@ -233,8 +229,8 @@ places-find-opening-determined κs x r s a b = a ∙ sym b
 pub places-after-determined : (κs : _) (x : _) (r s : _) → places-after.Post κs x r x → places-after.Post κs x s x → r ≡ s
 places-after-determined κs x r s a b = a ∙ sym b
 
-pub places-fitting-determined : (κs : _) (x : _) (r s : _) → places-fitting.Post κs x r x → places-fitting.Post κs x s x → r ≡ s
-places-fitting-determined κs x r s a b = a ∙ sym b
+pub places-find-fitting-determined : (κs : _) (x : _) (r s : _) → places-find-fitting.Post κs x r x → places-find-fitting.Post κs x s x → r ≡ s
+places-find-fitting-determined κs x r s a b = a ∙ sym b
 
 pub places-tick-all-determined : (κs : _) (x : _) (r s : _) → places-tick-all.Post κs x r x → places-tick-all.Post κs x s x → r ≡ s
 places-tick-all-determined κs x r s a b = a ∙ sym b

@@ -16,7 +16,7 @@ use Rattle.exchange.specs.declared.Replied.{Replied}
 use Rattle.exchange.specs.declared.Ticked.{Ticked}
 use Rattle.places.specs.declared.Swept.{Swept}
 use Rattle.places.specs.Rows.{placeAt, lowestFree, serialFor, fitting, nothing, swept}
-use Rattle.exchange.specs.Table.{inRange, legal, blank, made, found, placed, answered, ticking}
+use Rattle.exchange.specs.Table.{inRange, legal, blank, made, found, placed, stepped, answered, ticking}
 
 -- making a table
 module _ (t r : ℕ) where
@@ -77,13 +77,8 @@ module _ (x : Exchanges) where
     unfolding answered inOrder
     answered-stray e h = simp (e, le-ltb (fitting (x .places) 0 16 s w) 16 h)
 
-    -- the table after the step of a place
-    abbrev pub stepped : ℕ → Step → Replied
-    stepped k step =
-        record { verdict = good; place = k; outcome = step .outcome; state = placed x (set (x .places) k (step .place)) }
-
     pub answered-good : legal x ≡ true → fitting (x .places) 0 16 s w < 16
-        → answered x s w ≡ stepped (fitting (x .places) 0 16 s w) (replied (x .resends) w (placeAt (x .places) (fitting (x .places) 0 16 s w)))
+        → answered x s w ≡ stepped x (fitting (x .places) 0 16 s w) w
     unfolding answered inOrder
     answered-good e h = simp (e, lt-ltb (fitting (x .places) 0 16 s w) 16 h)
 

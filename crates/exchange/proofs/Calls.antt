@@ -20,11 +20,14 @@ use Rattle.place.specs.declared.Step.{Step}
 use Rattle.place.specs.Rules.{free, opened, isOpen}
 use Rattle.place.specs.declared.Place.{Place}
 use Rattle.place.specs.Steps.{NOTHING, replied}
+use Rattle.places.specs.declared.Fitting.{Fitting}
+use Rattle.places.specs.declared.Fitting.the-variants as fit
 use Rattle.places.specs.declared.Opening.{Opening}
 use Rattle.places.specs.declared.Opening.the-variants.{Broken, Full, At}
 use Rattle.places.specs.declared.Swept.{Swept}
-use Rattle.places.specs.Rows.{placeAt, areSound, opening, upward, fitting, nothing, swept}
+use Rattle.places.specs.Rows.{placeAt, areSound, opening, reached, upward, fitting, nothing, swept}
 use Rattle.places.proofs.Openings.{is-broken, is-full, is-at}
+use Rattle.places.proofs.Reaching.{was-broken, was-stray, was-at}
 use Rattle.exchange.specs.declared.Exchanges.{Exchanges}
 use Rattle.exchange.specs.declared.Draft.{Draft}
 use Rattle.exchange.specs.declared.Made.{Made}
@@ -33,10 +36,10 @@ use Rattle.exchange.specs.declared.Begun.{Begun}
 use Rattle.exchange.specs.declared.Replied.{Replied}
 use Rattle.exchange.specs.declared.Ticked.{Ticked}
 use Rattle.exchange.specs.Begins.{headedBy, modeOf, begunVerdict, unbegun, begun, begunOutput}
-use Rattle.exchange.specs.Table.{inRange, legal, made, unfound, found, entered, placed, answered, ticking}
+use Rattle.exchange.specs.Table.{inRange, legal, made, unfound, found, entered, placed, stepped, unanswered, answered, ticking}
 use Rattle.exchange.proofs.Answers.{made-refused, made-good, found-state, found-full, found-good, found-place}
 use Rattle.exchange.proofs.Begins.{draft-judged, find-decides, draft-decides, taken-by, begun-refused, output-kept, opening-at, begun-good, output-written, begun-few}
-use Rattle.exchange.proofs.Answers.{answered-state, answered-stray, answered-good, stepped, ticking-state, ticking-good, after-tick}
+use Rattle.exchange.proofs.Answers.{answered-state, answered-stray, answered-good, ticking-state, ticking-good, after-tick}
 
 -- whether a state keeps its rules
 module _ (x : Exchanges) (ranged : Bool) (r : ranged ≡ inRange (x .timeout) (x .resends)) where
@@ -73,6 +76,42 @@ pub ruleset keeping = (out-of-range, places-decide)
 
 pub ruleset finding = (find-unset, find-broken, find-full, find-good)
 
+-- a reply: a is what is handed back, f what the places told
+module _ (x : Exchanges) (s : ℕ) (w : Reply) (ranged : Bool) (r : ranged ≡ inRange (x .timeout) (x .resends)) where
+  pub reply-unset : (a : Replied) → not ranged ≡ true → a ≡ unanswered x STATE → a ≡ answered x s w
+  reply-unset a n e = e ∙ sym (answered-state x s w (sym (out-of-range x ranged r n)))
+
+  module _ (n : not ranged ≡ false) (f : Fitting) (told : f ≡ reached (x .timeout) (x .resends) (x .places) 0 16 s w) where
+    kept-is : (b : Bool) → areSound (x .timeout) (x .resends) (x .places) 0 16 ≡ b → legal x ≡ b
+    kept-is b e = sym (places-decide x ranged r b n (sym e))
+
+    pub reply-broken : (a : Replied) → f ≡ fit.Broken → a ≡ unanswered x STATE → a ≡ answered x s w
+    reply-broken a q e = e ∙ sym (answered-state x s w (kept-is false (was-broken (x .timeout) (x .resends) (x .places) 0 16 s w (sym q ∙ told))))
+
+    pub reply-stray : (a : Replied) → f ≡ fit.Stray → a ≡ unanswered x STRAY → a ≡ answered x s w
+    reply-stray a q e =
+        let is = was-stray (x .timeout) (x .resends) (x .places) 0 16 s w (sym q ∙ told) in
+        e ∙ sym (answered-stray x s w (kept-is true (is .0)) (is .1))
+
+    module _ (k : ℕ) (q : f ≡ fit.At k) where
+      at : (areSound (x .timeout) (x .resends) (x .places) 0 16 ≡ true) × (fitting (x .places) 0 16 s w < 16) × (k ≡ fitting (x .places) 0 16 s w)
+      at = was-at (x .timeout) (x .resends) (x .places) 0 16 s w k (sym q ∙ told)
+
+      pub reply-inside : k < 16
+      reply-inside = omega (arith, at .1, at .2)
+
+      pub reply-good : (a : Replied) → a ≡ stepped x k w → a ≡ answered x s w
+      reply-good a e = e ∙ ap (λ (j : ℕ). stepped x j w) (at .2) ∙ sym (answered-good x s w (kept-is true (at .0)) (at .1))
+
+-- the step of a place
+pub step-so : (x : Exchanges) (k : ℕ) (w : Reply) (v : Verdict) (step : Step) → v ≡ good → step ≡ replied (x .resends) w (placeAt (x .places) k)
+    → _≡_ {A = Replied} (record { verdict = v; place = k; outcome = step .outcome; state = placed x (set (x .places) k (step .place)) }) (stepped x k w)
+step-so x k w v step e d = λ i. record { verdict = e i; place = k; outcome = d i .outcome; state = placed x (set (x .places) k (d i .place)) }
+
+pub no-reply : (x : Exchanges) (v : Verdict) (n : ℕ) → v ≡ refusal n 0
+    → _≡_ {A = Replied} (record { verdict = v; place = 0; outcome = NOTHING; state = x }) (unanswered x n)
+no-reply x v n e = ap (λ (u : Verdict). record { verdict = u; place = 0; outcome = NOTHING; state = x }) e
+
 pub none-so : (v : Verdict) (n : ℕ) → v ≡ refusal n 0 → _≡_ {A = Found} (record { verdict = v; place = 0; serial = 0 }) (unfound n)
 none-so v n e = ap (λ (w : Verdict). record { verdict = w; place = 0; serial = 0 }) e
 
@@ -93,28 +132,6 @@ module _ (t m : ℕ) (ranged : Bool) (told : ranged ≡ inRange t m) (v : Verdic
 pub ruleset making = (fresh-refused, fresh-good)
 
 module _ (x : Exchanges) (l : Bool) (told : l ≡ legal x) where
-  -- a reply
-  module _ (s : ℕ) (w : Reply) (v : Verdict) where
-    pub reply-state : not l ≡ true → v ≡ refusal STATE 0
-        → _≡_ {A = Replied} (record { verdict = v; place = 0; outcome = NOTHING; state = x }) (answered x s w)
-    reply-state n e =
-        ap (λ (u : Verdict). record { verdict = u; place = 0; outcome = NOTHING; state = x }) e ∙ sym (answered-state x s w (off told n))
-
-    module _ (n : not l ≡ false) (k : ℕ) (f : k ≡ fitting (x .places) 0 16 s w) where
-      pub reply-stray : 16 ≤ k → v ≡ refusal STRAY 0
-          → _≡_ {A = Replied} (record { verdict = v; place = 0; outcome = NOTHING; state = x }) (answered x s w)
-      reply-stray h e =
-          ap (λ (u : Verdict). record { verdict = u; place = 0; outcome = NOTHING; state = x }) e
-          ∙ sym (answered-stray x s w (on told n) (subst (λ (m : ℕ). 16 ≤ m) f h))
-
-      pub reply-good : (step : Step) → k < 16 → step ≡ replied (x .resends) w (placeAt (x .places) k) → v ≡ good
-          → _≡_ {A = Replied} (record { verdict = v; place = k; outcome = step .outcome; state = placed x (set (x .places) k (step .place)) }) (answered x s w)
-      reply-good step h q e =
-          ap (λ (u : Verdict). record { verdict = u; place = k; outcome = step .outcome; state = placed x (set (x .places) k (step .place)) }) e
-          ∙ ap (stepped x s w k) q
-          ∙ ap (λ (j : ℕ). stepped x s w j (replied (x .resends) w (placeAt (x .places) j))) f
-          ∙ sym (answered-good x s w (on told n) (subst (λ (m : ℕ). m < 16) f h))
-
   -- the tick
   pub tick-state : (v : Verdict) → not l ≡ true → v ≡ refusal STATE 0
       → _≡_ {A = Ticked} (record { verdict = v; reports = replicate 16 nothing; state = x }) (ticking x)
@@ -207,7 +224,7 @@ module _ (x : Exchanges) (out : List ℕ) (d : Draft) (l : ℕ) (f : Found) (tol
             ∙ ap (λ (y : Header). writtenPacket rows out y l) (header ∙ λ i. headedBy d (told i .serial) (own i))
             ∙ sym (output-written rows x out d l taken)
 
-pub ruleset replying = (reply-state, reply-stray, reply-good)
+pub ruleset replying = (reply-unset, reply-broken, reply-stray, reply-inside, reply-good)
 
 pub ruleset ticked = (tick-state, tick-good)
 

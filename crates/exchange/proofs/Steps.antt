@@ -21,10 +21,10 @@ use Rattle.exchange.specs.declared.Begun.{Begun}
 use Rattle.exchange.specs.declared.Replied.{Replied}
 use Rattle.exchange.specs.declared.Ticked.{Ticked}
 use Rattle.exchange.specs.Begins.{modeOf}
-use Rattle.exchange.specs.Table.{answered, ticking}
+use Rattle.exchange.specs.Table.{stepped, answered, ticking}
 use Rattle.exchange.specs.Calls.{Asked, begunBy, Call, begin, reply, tick, after, Sound}
 use Rattle.exchange.specs.Histories.{opens, toldOf, stepBy}
-use Rattle.exchange.proofs.Answers.{answered-stray, answered-good, stepped, ticking-good}
+use Rattle.exchange.proofs.Answers.{answered-stray, answered-good, ticking-good}
 use Rattle.exchange.proofs.Kept.{rules-of, fitting-fits}
 use Rattle.exchange.proofs.Changes.{begin-refused, begin-others, begun-state, begun-inside, tick-each, tick-tells}
 
@@ -73,7 +73,7 @@ module _ (x : Exchanges) (sound : Sound x) (k : ℕ) (here : k < 16) where
       by-fit true e =
           let is : n ≡ k = fitting-is s w e in
           ap at (answered-good x s w (sound .kept) (omega (arith, is, here)))
-          ∙ ap (λ (j : ℕ). at (stepped x s w j (to j))) is
+          ∙ ap (λ (j : ℕ). at (stepped x j w)) is
           ∙ (λ i. becomes (changed (x .places) k (to k .place) inside i) (cond (eq-eqb k k refl i) (to k .outcome) NOTHING))
       by-fit false e = by-place e (ltb n 16) refl
 

@@ -67,6 +67,15 @@ entered x k s m =
 abbrev pub replyTests : Exchanges → ℕ → Reply → List Test
 replyTests x s w = (legal x or-else STATE) ∷ (ltb (fitting (x .places) 0 16 s w) 16 or-else STRAY) ∷ []
 
+-- the step of the place at a number, as a reply that fits it makes it
+abbrev pub stepped : Exchanges → ℕ → Reply → Replied
+stepped x k w =
+    let step = replied (x .resends) w (placeAt (x .places) k) in
+    record { verdict = good; place = k; outcome = step .outcome; state = placed x (set (x .places) k (step .place)) }
+
+abbrev pub unanswered : Exchanges → ℕ → Replied
+unanswered x n = record { verdict = refusal n 0; place = 0; outcome = NOTHING; state = x }
+
 -- "A reply is given as its serial and one of confirm, answer, deny, bad answer": the place that it fits takes its step
 unfoldable pub answered : Exchanges → ℕ → Reply → Replied
 answered x s w =

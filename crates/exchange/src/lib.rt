@@ -4,7 +4,7 @@ ghost use mathlib.Core.Bool.{cond};
 ghost use Prim.Native.Nat.{_<_};
 ghost use Rattle.kinds.specs.Table.{rows};
 ghost use Rattle.place.specs.Rules.{isOpen};
-ghost use Rattle.exchange.specs.Table.{inRange, legal, made, unfound, found, entered, answered, ticking};
+ghost use Rattle.exchange.specs.Table.{inRange, legal, made, unfound, found, entered, stepped, unanswered, answered, ticking};
 ghost use Rattle.exchange.specs.Begins.{headedBy, modeOf, unbegun, begun, begunOutput};
 use label::Label;
 use packet::Header;
@@ -14,6 +14,7 @@ use place::Place;
 use place::REQUEST;
 use place::Reply;
 use place::SEND;
+use places::Fitting;
 use places::Opening;
 use places::Report;
 use verdict::FULL;
@@ -129,18 +130,14 @@ impl Exchanges {
     fn find(self) -> Found
         ensures { λ r. ⌜ r ≡ found self ⌝ }
     {
-        if !in_range(self.timeout, self.resends) {
+        let timeout = self.timeout;
+        let resends = self.resends;
+        if !in_range(timeout, resends) {
             return unfound(STATE);
         }
         let places = self.places;
-        let opening = places::find_opening(
-            places,
-            0,
-            Exchanges::PLACES,
-            self.timeout,
-            self.resends,
-            self.next,
-        );
+        let to = Exchanges::PLACES;
+        let opening = places::find_opening(places, 0, to, timeout, resends, self.next);
         match opening {
             Opening::Broken => unfound(STATE),
             Opening::Full => unfound(FULL),
@@ -215,24 +212,27 @@ impl Exchanges {
     pub fn reply(self, serial: u16, reply: Reply) -> Replied
         ensures { λ r. ⌜ r ≡ answered self serial reply ⌝ }
     {
-        if !self.is_legal() {
-            return Replied {
-                verdict: Verdict::refused(STATE, 0),
-                place: 0,
-                outcome: NOTHING,
-                state: self,
-            };
+        let timeout = self.timeout;
+        let resends = self.resends;
+        if !in_range(timeout, resends) {
+            return self.unanswered(STATE);
         }
+        let places = self.places;
+        let to = Exchanges::PLACES;
+        let fitting = places::find_fitting(places, 0, to, timeout, resends, serial, reply);
+        match fitting {
+            Fitting::Broken => self.unanswered(STATE),
+            Fitting::Stray => self.unanswered(STRAY),
+            Fitting::At(place) => self.step(place, reply),
+        }
+    }
+
+    // The step of the place that a reply fits.
+    fn step(self, place: usize, reply: Reply) -> Replied
+        requires { ⌜ place < 16 ⌝ }
+        ensures { λ r. ⌜ r ≡ stepped self place reply ⌝ }
+    {
         let mut places = self.places;
-        let place = places::fitting(places, 0, Exchanges::PLACES, serial, reply);
-        if Exchanges::PLACES <= place {
-            return Replied {
-                verdict: Verdict::refused(STRAY, 0),
-                place: 0,
-                outcome: NOTHING,
-                state: self,
-            };
-        }
         let p = places[place];
         let step = p.replied(reply, self.resends);
         let now = step.place;
@@ -247,6 +247,18 @@ impl Exchanges {
                 timeout: self.timeout,
                 resends: self.resends,
             },
+        }
+    }
+
+    // A reply that was refused.
+    fn unanswered(self, number: u8) -> Replied
+        ensures { λ r. ⌜ r ≡ unanswered self number ⌝ }
+    {
+        Replied {
+            verdict: Verdict::refused(number, 0),
+            place: 0,
+            outcome: NOTHING,
+            state: self,
         }
     }
 

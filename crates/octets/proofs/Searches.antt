@@ -134,6 +134,14 @@ module _ (f : ℕ → Bool) where
   none-fits i (suc n) h =
       simp (h i (omega arith) (omega arith)) (none-fits (suc i) n (λ k l u. h k (omega arith) (omega arith)))
 
+-- two tests that agree on a run find the same place
+pub first-same : (f g : ℕ → Bool) (i n : ℕ) → ((k : ℕ) → i ≤ k → k < i + n → f k ≡ g k) → firstFit f i n ≡ firstFit g i n
+unfolding firstFit
+first-same f g i zero h = refl
+first-same f g i (suc n) h =
+    (λ j. cond (h i (omega arith) (omega arith) j) i (firstFit f (suc i) n))
+    ∙ ap (cond (g i) i) (first-same f g (suc i) n (λ k l u. h k (omega arith) (omega arith)))
+
 -- two searches find something where what one finds the other finds too
 module _ (f g : ℕ → Bool) (i n j m : ℕ) where
   pub found-there : ((k : ℕ) → i ≤ k → k < i + n → f k ≡ true → (j ≤ k) × (k < j + m) × (g k ≡ true)) → anyFits f i n ≡ true → anyFits g j m ≡ true

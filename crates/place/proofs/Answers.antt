@@ -1,47 +1,40 @@
 -- What each way out of a place's calls answers, from the tests that led there. Assumes nothing.
-use Prim.Native.Nat.{ℕ, _+_, _≤_, _<_}
-use mathlib.Core.Bool.{Bool, true, false, not, _&&_}
+use Prim.Native.Nat.{ℕ, _+_, _*_, _≤_, _<_}
+use native.Mathlib.Omega.{arith}
+use mathlib.Core.Bool.{Bool, true, false, not, _&&_, and-eq-true-iff}
 use mathlib.Core.Path.{_≡_, refl, sym, ap, _∙_}
-use borrow.Author.Tests.{lt-ltb, le-ltb, eq-eqb, ne-eqb}
+use borrow.Author.Tests.{lt-ltb, le-ltb, eqb-true, eq-eqb, ne-eqb}
 use lib.Dec.{eqb, leb}
-use Rattle.octets.proofs.Flags.{on, off}
+use Rattle.octets.proofs.Flags.{on, off, both-or-none}
 use Rattle.place.specs.declared.Place.{Place}
 use Rattle.place.specs.declared.Reply.{Reply}
 use Rattle.place.specs.declared.Reply.the-variants.{Confirm, Answer, Deny, BadAnswer}
 use Rattle.place.specs.declared.Step.{Step}
-use Rattle.place.specs.Rules.{free, isOpen, isZero, holds, keeps}
-use Rattle.place.specs.Steps.{NOTHING, CONFIRMED, ANSWERED, RESENT, FAILED, becomes, counted, denied, ticked, awaits, fits, replied}
+use Rattle.place.specs.Rules.{free, isOpen, isZero, keeps}
+use Rattle.place.specs.Steps.{NOTHING, CONFIRMED, ANSWERED, RESENT, FAILED, becomes, counted, denied, ticked, replied}
 
 module _ (p : Place) where
-  -- all zero
-  pub a-serial : (p .serial ≡ 0 → ⊥) → false ≡ isZero p
+  -- all zero, of the numbers as one
+  pub as-one : eqb (p .serial + p .mode * 65536 + (p .resends * 16777216 + p .age * 4294967296)) 0 ≡ isZero p
   unfolding isZero
-  a-serial n = simp (ne-eqb _ _ n)
-
-  module _ (s : p .serial ≡ 0) where
-    pub a-mode : (p .mode ≡ 0 → ⊥) → false ≡ isZero p
-    unfolding isZero
-    a-mode n = simp (eq-eqb _ _ s, ne-eqb _ _ n)
-
-    module _ (m : p .mode ≡ 0) where
-      pub a-resend : (p .resends ≡ 0 → ⊥) → false ≡ isZero p
-      unfolding isZero
-      a-resend n = simp (eq-eqb _ _ s, eq-eqb _ _ m, ne-eqb _ _ n)
-
-      pub age-alone : p .resends ≡ 0 → eqb (p .age) 0 ≡ isZero p
-      unfolding isZero
-      age-alone r = simp (eq-eqb _ _ s, eq-eqb _ _ m, eq-eqb _ _ r)
+  as-one =
+      let n = p .serial + p .mode * 65536 + (p .resends * 16777216 + p .age * 4294967296) in
+      both-or-none (eqb n 0) (eqb (p .serial) 0 && eqb (p .mode) 0 && eqb (p .resends) 0 && eqb (p .age) 0)
+      (λ t.
+      let e = eqb-true n 0 t in
+      simp (eq-eqb (p .serial) 0 (omega (arith, e)), eq-eqb (p .mode) 0 (omega (arith, e)), eq-eqb (p .resends) 0 (omega (arith, e)), eq-eqb (p .age) 0 (omega (arith, e))))
+      (λ t.
+      let a = and-eq-true-iff (eqb (p .serial) 0 && eqb (p .mode) 0 && eqb (p .resends) 0) (eqb (p .age) 0) .0 t in
+      let b = and-eq-true-iff (eqb (p .serial) 0 && eqb (p .mode) 0) (eqb (p .resends) 0) .0 (a .0) in
+      let c = and-eq-true-iff (eqb (p .serial) 0) (eqb (p .mode) 0) .0 (b .0) in
+      let s = eqb-true (p .serial) 0 (c .0) in
+      let m = eqb-true (p .mode) 0 (c .1) in
+      let r = eqb-true (p .resends) 0 (b .1) in
+      let g = eqb-true (p .age) 0 (a .1) in
+      eq-eqb n 0 (omega (arith, s, m, r, g)))
 
   -- open, or not
   module _ (o : Bool) (told : o ≡ isOpen (p .mode)) where
-    pub not-open : (s : ℕ) → not o ≡ true → false ≡ holds s p
-    unfolding holds
-    not-open s n = simp (off told n)
-
-    pub open-under : (s : ℕ) → not o ≡ false → eqb (p .serial) s ≡ holds s p
-    unfolding holds
-    open-under s n = simp (on told n)
-
     module _ (t r : ℕ) where
       pub young : o ≡ true → p .age < t → leb (p .resends) r ≡ keeps t r p
       unfolding keeps
@@ -95,24 +88,6 @@ module _ (p : Place) where
       unfolding replied
       by-bad-answer s e q = q ∙ ap (λ (x : Reply). replied r x p) (sym e)
 
-  -- the serial is asked first, since it seldom fits
-  module _ (s : ℕ) (w : Reply) where
-    pub another-serial : (p .serial ≡ s → ⊥) → false ≡ fits s w p
-    unfolding fits
-    another-serial n = simp (ne-eqb _ _ n) (no-serial (awaits (p .mode) w))
-      where
-        no-serial : (b : Bool) → false ≡ (b && false)
-        no-serial true = refl
-        no-serial false = refl
-
-    pub its-serial : (b : Bool) → p .serial ≡ s → b ≡ awaits (p .mode) w → b ≡ fits s w p
-    unfolding fits
-    its-serial b e q = q ∙ simp (eq-eqb _ _ e) (same (awaits (p .mode) w))
-      where
-        same : (b : Bool) → b ≡ (b && true)
-        same true = refl
-        same false = refl
-
-pub ruleset asked = (a-serial, a-mode, a-resend, age-alone, not-open, open-under, young, too-old, a-free-place, another-serial, its-serial)
+pub ruleset asked = (young, too-old, a-free-place)
 
 pub ruleset stepping = (no-tick, older, run-out, sent-again, has-failed, by-confirm, by-answer, by-deny, by-bad-answer)

@@ -2,7 +2,7 @@
 -- By the tests of each rule. Assumes nothing.
 use Prim.Native.Nat.{ℕ, _+_, _≤_, _<_}
 use native.Mathlib.Omega.{arith}
-use mathlib.Core.Bool.{Bool, true, false, cond, and-eq-true-iff, false≢true}
+use mathlib.Core.Bool.{Bool, true, false, _&&_, cond, and-eq-true-iff, false≢true}
 use mathlib.Core.Path.{_≡_, refl, sym, _∙_}
 use borrow.Author.Tests.{ltb-true, leb-true, eqb-true, lt-ltb, le-leb, eq-eqb}
 use lib.Dec.{ltb, leb, eqb}
@@ -89,6 +89,28 @@ unfolding keeps
 open-kept t r p o k =
     let h = and-eq-true-iff (ltb (p .age) t) (leb (p .resends) r) .0 (simp o at k) in
     (ltb-true (p .age) t (h .0), leb-true (p .resends) r (h .1))
+
+-- a place of zeros keeps them and is not open, and one that keeps them and is not of zeros is open
+module _ (p : Place) where
+  pub zero-free : isZero p ≡ true → isOpen (p .mode) ≡ false
+  unfolding isZero isOpen
+  zero-free z =
+      let a = and-eq-true-iff (eqb (p .serial) 0 && eqb (p .mode) 0 && eqb (p .resends) 0) (eqb (p .age) 0) .0 z in
+      let b = and-eq-true-iff (eqb (p .serial) 0 && eqb (p .mode) 0) (eqb (p .resends) 0) .0 (a .0) in
+      let m = eqb-true (p .mode) 0 (and-eq-true-iff (eqb (p .serial) 0) (eqb (p .mode) 0) .0 (b .0) .1) in
+      simp m
+
+  pub zero-keeps : (t r : ℕ) → isZero p ≡ true → keeps t r p ≡ true
+  unfolding keeps
+  zero-keeps t r z = simp (zero-free z, z)
+
+  pub kept-open : (t r : ℕ) → keeps t r p ≡ true → isZero p ≡ false → isOpen (p .mode) ≡ true
+  unfolding keeps
+  kept-open t r k z = by-mode (isOpen (p .mode)) k
+    where
+      by-mode : (o : Bool) → cond o (ltb (p .age) t && leb (p .resends) r) (isZero p) ≡ true → o ≡ true
+      by-mode true k = refl
+      by-mode false k = absurd (false≢true (sym z ∙ k))
 
 -- a step keeps the rules
 module _ (t r : ℕ) (p : Place) (some : 1 ≤ t) where

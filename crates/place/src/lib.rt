@@ -1,7 +1,7 @@
 // One place of the exchange table, and what a reply and a tick make of it.
 ghost use mathlib.Core.Path.{_≡_};
-ghost use Rattle.place.specs.Rules.{free, isOpen, isZero, holds, keeps};
-ghost use Rattle.place.specs.Steps.{outcomes, awaits, denied, ticked, fits, replied};
+ghost use Rattle.place.specs.Rules.{free, isOpen, isZero, keeps};
+ghost use Rattle.place.specs.Steps.{outcomes, awaits, denied, ticked, replied};
 
 // A mode is a number, as C sees it; free is 0, so that a place of zeros is the free one.
 pub const FREE: u8 = 0;
@@ -85,16 +85,6 @@ impl Place {
         }
     }
 
-    // Whether the place is open under a serial.
-    pub fn holds(self, serial: u16) -> bool
-        ensures { λ r. ⌜ r ≡ holds serial self ⌝ }
-    {
-        if !is_open(self.mode) {
-            return false;
-        }
-        self.serial == serial
-    }
-
     // Whether the place alone keeps the state's rules.
     pub fn keeps(self, timeout: u8, resends: u8) -> bool
         ensures { λ r. ⌜ r ≡ keeps timeout resends self ⌝ }
@@ -108,19 +98,13 @@ impl Place {
         self.is_zero()
     }
 
-    fn is_zero(self) -> bool
+    // Whether the place is all zero: its numbers as one, so that they are compared at once.
+    pub fn is_zero(self) -> bool
         ensures { λ r. ⌜ r ≡ isZero self ⌝ }
     {
-        if self.serial != 0 {
-            return false;
-        }
-        if self.mode != FREE {
-            return false;
-        }
-        if self.resends != 0 {
-            return false;
-        }
-        self.age == 0
+        let low = (self.serial as u64) + (self.mode as u64) * 65536;
+        let high = (self.resends as u64) * 16777216 + (self.age as u64) * 4294967296;
+        low + high == 0
     }
 
     // A denial: sent again while fewer than `resends` were made, else failed and freed.
@@ -167,16 +151,6 @@ impl Place {
             };
         }
         self.denied(resends)
-    }
-
-    // Whether the place waits for this reply.
-    pub fn fits(self, serial: u16, reply: Reply) -> bool
-        ensures { λ r. ⌜ r ≡ fits serial reply self ⌝ }
-    {
-        if self.serial != serial {
-            return false;
-        }
-        awaits(self.mode, reply)
     }
 
     // What a reply that fits makes of the place.

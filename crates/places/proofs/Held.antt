@@ -2,8 +2,8 @@
 -- stands in it exactly where it is open. By the tests of each place. Assumes nothing.
 use Prim.Native.Nat.{ℕ, _+_, _-_, _≤_, _<_, min}
 use native.Mathlib.Omega.{arith}
-use borrow.Author.Tests.{eqb-true, eqb-false, eq-eqb, leb-true, le-leb, ltb-true, ltb-false, lt-ltb}
-use mathlib.Core.Bool.{Bool, true, false, not, _&&_, cond, and-eq-true-iff, false≢true}
+use borrow.Author.Tests.{eqb-true, eqb-false, eq-eqb, ne-eqb, leb-true, le-leb, lt-leb, ltb-true, ltb-false, lt-ltb}
+use mathlib.Core.Bool.{Bool, true, false, not, _&&_, _||_, cond, and-eq-true-iff, false≢true}
 use mathlib.Core.List.{List}
 use mathlib.Core.Path.{_≡_, sym, ap, _∙_}
 use lib.Arith.{lt-of-le-ne}
@@ -11,13 +11,13 @@ use lib.Dec.{eqb, leb, ltb}
 use lib.ListN.{length, getD, set, replicate, getD-replicate, List·getD-eq-default}
 use lib.Seq.{getD-set-same, getD-set-other}
 use Rattle.octets.specs.Searches.{firstFit, anyFits}
-use Rattle.octets.proofs.Searches.{any-none, none-fits, found-there}
+use Rattle.octets.proofs.Searches.{first-same, any-none, none-fits, found-there}
 use Rattle.octets.proofs.Flags.{by-test, both-or-none}
 use Rattle.place.specs.declared.Place.{Place}
 use Rattle.place.specs.Rules.{free, isOpen, holds}
 use Rattle.place.proofs.Kept.{holds-is, open-holds, free-holds}
-use Rattle.places.specs.Rows.{placeAt, holdsAt, isOpenAs, doubleAt, twice, upward, serialFor}
-use Rattle.places.specs.Held.{NONE, heldBy, Held, standsAt, standsIn}
+use Rattle.places.specs.Rows.{placeAt, freeAt, holdsAt, lowestFree, isOpenAs, doubleAt, twice, upward, serialFor}
+use Rattle.places.specs.Held.{NONE, heldBy, Held, standsAt, standsIn, bareAt, freeIn}
 
 module _ (ps : List Place) (to : ℕ) where
   within : (i k : ℕ) → i ≤ k → k < to → leb i k && ltb k to ≡ true
@@ -30,6 +30,11 @@ module _ (ps : List Place) (to : ℕ) where
       let a = and-eq-true-iff (leb i k) (ltb k to) .0 e in
       absurd (neither (leb-true i k (a .0)) (ltb-true k to (a .1))))
       (λ e. e)
+
+  up-one : (i j k : ℕ) → i ≡ j + 1 → (k ≡ j → ⊥) → leb i k ≡ leb j k
+  up-one i j k e other =
+      both-or-none (leb i k) (leb j k) (λ t. le-leb j k (let l = leb-true i k t in omega arith))
+      (λ t. le-leb i k (let l = lt-of-le-ne (leb-true j k t) (λ q. other (sym q)) in omega arith))
 
   pub held-none : Held (replicate 16 NONE) ps (min to 16) to
   held-none k h =
@@ -49,12 +54,22 @@ module _ (ps : List Place) (to : ℕ) where
       ∙ ap (λ (b : Bool). cond b (heldBy (placeAt ps k)) NONE) (sym (within j k (omega arith) (omega arith))))
       (λ f.
       let other = eqb-false k j f in
-      let up : leb i k ≡ leb j k =
-      both-or-none (leb i k) (leb j k) (λ t. le-leb j k (let l = leb-true i k t in omega arith))
-      (λ t. le-leb i k (let l = lt-of-le-ne (leb-true j k t) (λ q. other (sym q)) in omega arith)) in
       getD-set-other row j k x 0 other
       ∙ held k h
-      ∙ ap (λ (b : Bool). cond (b && ltb k to) (heldBy (placeAt ps k)) NONE) up)
+      ∙ ap (λ (b : Bool). cond (b && ltb k to) (heldBy (placeAt ps k)) NONE) (up-one i j k e other))
+
+  -- a place more that is not open
+  pub held-on : (row : List ℕ) (i j : ℕ) → i ≡ j + 1 → isOpen (placeAt ps j .mode) ≡ false → Held row ps i to → Held row ps j to
+  held-on row i j e free held k h =
+      by-test (eqb k j)
+      (λ t.
+      let same : k ≡ j = eqb-true k j t in
+      let none : heldBy (placeAt ps k) ≡ NONE = ap (λ (n : ℕ). heldBy (placeAt ps n)) same ∙ ap (λ (b : Bool). cond b (placeAt ps j .serial) NONE) free in
+      held k h
+      ∙ ap (λ (b : Bool). cond b (heldBy (placeAt ps k)) NONE) (without i k (λ u v. omega arith))
+      ∙ sym (by-test (leb j k && ltb k to) (λ b. simp b none) (λ b. simp b)))
+      (λ f.
+      held k h ∙ ap (λ (b : Bool). cond (b && ltb k to) (heldBy (placeAt ps k)) NONE) (up-one i j k e (eqb-false k j f)))
 
   -- a search that began behind the last place has nothing to add
   pub held-from : (row : List ℕ) (i from : ℕ) → i ≤ from → min from (min to 16) ≤ i → Held row ps i to → Held row ps from to
@@ -74,7 +89,7 @@ module _ (ps : List Place) (to : ℕ) where
 
   -- a serial stands in the row exactly where it is open
   module _ (row : List ℕ) (from s : ℕ) (small : s < 65536) (long : length ps ≡ 16) (held : Held row ps from to) where
-    stands-open : (k : ℕ) → 0 ≤ k → k < 0 + 16 → standsAt row s k ≡ true → (from ≤ k) × (k < from + (to - from)) × (holdsAt ps s k ≡ true)
+    pub stands-open : (k : ℕ) → 0 ≤ k → k < 0 + 16 → standsAt row s k ≡ true → (from ≤ k) × (k < from + (to - from)) × (holdsAt ps s k ≡ true)
     stands-open k l h e =
         let p = placeAt ps k in
         let here = sym (held k (omega arith)) ∙ eqb-true (getD row k 0) s e in
@@ -91,7 +106,7 @@ module _ (ps : List Place) (to : ℕ) where
         (λ o. let none : 65536 ≡ s = ap (λ (b : Bool). cond b (p .serial) NONE) (sym o) ∙ here in absurd (omega arith)))
         (λ f. let none : 65536 ≡ s = ap (λ (b : Bool). cond b (heldBy p) NONE) (sym f) ∙ here in absurd (omega arith))
 
-    open-stands : (k : ℕ) → from ≤ k → k < from + (to - from) → holdsAt ps s k ≡ true → (0 ≤ k) × (k < 0 + 16) × (standsAt row s k ≡ true)
+    pub open-stands : (k : ℕ) → from ≤ k → k < from + (to - from) → holdsAt ps s k ≡ true → (0 ≤ k) × (k < 0 + 16) × (standsAt row s k ≡ true)
     open-stands k l h e =
         let p = placeAt ps k in
         let is = holds-is s p e in
@@ -120,6 +135,31 @@ module _ (ps : List Place) (to : ℕ) where
   unfolding serialFor
   serial-in-row row from next long held =
       λ i. upward next (firstFit (λ j. not (stands-as-open row from (upward next j) (omega arith) long held i)) 0 (to - from))
+
+  -- no serial stands in the row exactly where a place is free
+  pub free-in-row : (row : List ℕ) (from : ℕ) → length ps ≡ 16 → Held row ps from to
+      → ((k : ℕ) → from ≤ k → k < to → isOpen (placeAt ps k .mode) ≡ true → placeAt ps k .serial < 65536)
+      → freeIn row from to ≡ lowestFree ps from to
+  unfolding freeIn lowestFree isOpen
+  free-in-row row from long held small = first-same (bareAt row) (freeAt ps) from (to - from) (λ k l h. by-place k l (omega arith))
+    where
+      bare : (k : ℕ) → from ≤ k → k < to → k < 16 → bareAt row k ≡ freeAt ps k
+      bare k l h i =
+          let p = placeAt ps k in
+          let is : getD row k 0 ≡ heldBy p = held k i ∙ ap (λ (b : Bool). cond b (heldBy p) NONE) (within from k l h) in
+          ap (λ (b : Bool). b || eqb (getD row k 0) NONE) (lt-leb 16 k i)
+          ∙ ap (λ (n : ℕ). eqb n NONE) is
+          ∙ by-test (isOpen (p .mode))
+          (λ o. ap (λ (b : Bool). eqb (cond b (p .serial) NONE) NONE) o ∙ ne-eqb (p .serial) NONE (λ e. omega (arith, e, small k l h o)) ∙ sym (ap not o))
+          (λ o. ap (λ (b : Bool). eqb (cond b (p .serial) NONE) NONE) o ∙ sym (ap not o))
+
+      by-place : (k : ℕ) → from ≤ k → k < to → bareAt row k ≡ freeAt ps k
+      by-place k l h =
+          by-test (ltb k 16) (λ t. bare k l h (ltb-true k 16 t))
+          (λ f.
+          let past = ltb-false k 16 f in
+          ap (λ (b : Bool). b || eqb (getD row k 0) NONE) (le-leb 16 k past)
+          ∙ sym (ap (λ (p : Place). not (isOpen (p .mode))) (List·getD-eq-default ps free {n = k} (omega arith))))
 
   -- a place behind which its serial stands in the row is a double, and one behind which it does not is none
   pub double-by-row : (row : List ℕ) (i j : ℕ) → i ≡ j + 1 → length ps ≡ 16 → placeAt ps j .serial < 65536 → Held row ps i to

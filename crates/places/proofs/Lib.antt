@@ -4,6 +4,7 @@ pub mod Rules
 pub mod Held
 pub mod Ends
 pub mod Openings
+pub mod Reaching
 mod Loops
 mod Sweeping
 mod Hitting

@@ -1,30 +1,32 @@
 -- The pass over the places and the search for a serial: what holds at a turn, at first, one turn more, and at each way out. Assumes nothing.
-use Prim.Native.Nat.{ℕ, _+_, _-_, _≤_, _<_, min, max}
+use Prim.Native.Nat.{ℕ, zero, suc, _+_, _-_, _≤_, _<_, min}
 use native.Mathlib.Omega.{arith}
-use mathlib.Core.Bool.{Bool, true, false, not, _&&_, cond, false≢true, and-false}
+use mathlib.Core.Bool.{Bool, true, false, not, _&&_, _||_, false≢true, and-false}
 use mathlib.Core.List.{List}
-use mathlib.Core.Path.{_≡_, refl, sym, ap, subst⁻¹, _∙_}
-use lib.Dec.{ltb}
-use lib.ListN.{length, set, replicate, length-set}
-use borrow.Author.Tests.{not-true, not-false, lt-ltb, le-ltb}
+use mathlib.Core.Path.{_≡_, refl, sym, ap, subst, subst⁻¹, _∙_}
+use lib.Arith.{lt-of-le-ne}
+use lib.Dec.{eqb, ltb}
+use lib.ListN.{length, getD, set, replicate, length-set}
+use borrow.Author.Tests.{not-true, not-false, lt-ltb, le-ltb, ltb-true, ltb-false, le-leb, lt-leb, eq-eqb, ne-eqb, eqb-true, eqb-false}
 use Rattle.octets.specs.Searches.{firstFit, anyFits}
 use Rattle.octets.proofs.Flags.{by-test, on, off}
 use Rattle.octets.proofs.Searches.{first-from, first-here, first-on, first-end, any-on}
 use Rattle.place.specs.declared.Place.{Place}
-use Rattle.place.specs.Rules.{isOpen, keeps}
+use Rattle.place.specs.Rules.{isOpen, isZero, keeps}
+use Rattle.place.proofs.Kept.{zero-free, zero-keeps, kept-open}
 use Rattle.places.specs.declared.Opening.{Opening}
 use Rattle.places.specs.declared.Opening.the-variants.{Broken, Full, At}
 use Rattle.places.specs.declared.Seen.{Seen}
 use Rattle.places.specs.Rows.{placeAt, freeAt, keepsAt, lowestFree, doubleAt, twice, allKeep, areSound, upward, serialFor, opening}
-use Rattle.places.specs.Held.{NONE, heldBy, Held, standsIn, serialIn, Surveyed}
-use Rattle.places.proofs.Ends.{keep-behind, free-behind}
-use Rattle.places.proofs.Held.{held-none, held-more, held-from, serial-in-row, double-by-row, none-behind, double-found, none-found}
+use Rattle.places.specs.Held.{NONE, heldBy, Held, standsIn, bareAt, freeIn, serialIn, Surveyed}
+use Rattle.places.proofs.Ends.{keep-behind, closed-behind}
+use Rattle.places.proofs.Held.{held-none, held-more, held-on, held-from, serial-in-row, free-in-row, double-by-row, none-behind, double-found, none-found}
 use Rattle.places.proofs.Rules.{keep-each, each-keep}
 use Rattle.places.proofs.Serials.{upward-none, upward-more}
 
--- from the last place down to i: each keeps the rules for a place, none is open under a serial that is open further on, the row has what
--- they hold, and the lowest free one of them is known
-pub record Looked (t r : ℕ) (ps : List Place) (from to : ℕ) (row : List ℕ) (lowest i : ℕ) : Type 0 where
+-- from the last place down to i: each keeps the rules for a place, none is open under a serial that is open further on, and the row has what
+-- they hold
+pub record Looked (t r : ℕ) (ps : List Place) (from to : ℕ) (row : List ℕ) (i : ℕ) : Type 0 where
   pub least : i ≤ to
   pub few : i ≤ 16
   pub low : min from (min to 16) ≤ i
@@ -32,12 +34,12 @@ pub record Looked (t r : ℕ) (ps : List Place) (from to : ℕ) (row : List ℕ)
   pub held : Held row ps i to
   pub kept : allKeep t r ps i to ≡ true
   pub none : anyFits (doubleAt ps to) i (to - i) ≡ false
-  pub free : lowest ≡ lowestFree ps (max from i) to
+  pub small : (k : ℕ) → i ≤ k → k < to → isOpen (placeAt ps k .mode) ≡ true → placeAt ps k .serial < 65536
 
 module _ (t r : ℕ) (ps : List Place) (from to : ℕ) (long : length ps ≡ 16) where
   -- before the first turn
-  pub looked-none : (i lowest : ℕ) → i ≡ min to 16 → lowest ≡ max from i → Looked t r ps from to (replicate 16 NONE) lowest i
-  looked-none i lowest e m =
+  pub looked-none : (i : ℕ) → i ≡ min to 16 → Looked t r ps from to (replicate 16 NONE) i
+  looked-none i e =
       record {
         least = omega arith;
         few = omega arith;
@@ -46,98 +48,150 @@ module _ (t r : ℕ) (ps : List Place) (from to : ℕ) (long : length ps ≡ 16)
         held = subst⁻¹ (λ (k : ℕ). Held (replicate 16 NONE) ps k to) e (held-none ps to);
         kept = keep-behind ps long t r i to (omega arith);
         none = subst⁻¹ (λ (k : ℕ). anyFits (doubleAt ps to) k (to - k) ≡ false) e (none-behind ps to long);
-        free = m ∙ free-behind ps long (max from i) to (omega arith);
+        small = λ k l h o. absurd (false≢true (sym (closed-behind ps long k (omega arith)) ∙ o));
       }
 
-  module _ (row : List ℕ) (lowest i : ℕ) (below : from < i) (s : Looked t r ps from to row lowest i) (k : Bool) (keeping : k ≡ keeps t r (placeAt ps (i - 1))) where
+  -- z is whether the place is all zero
+  module _ (row : List ℕ) (i : ℕ) (below : from < i) (s : Looked t r ps from to row i) (z : Bool) (zero : z ≡ isZero (placeAt ps (i - 1))) where
     up : i - 1 + 1 ≡ i
     up = omega arith
 
-    -- a place that breaks the rules for a place
-    pub one-breaks : not k ≡ true → Surveyed t r ps from to (record { sound = false; lowest = lowest; row = row })
-    unfolding areSound
-    one-breaks n =
+    more-kept : keeps t r (placeAt ps (i - 1)) ≡ true → allKeep t r ps (i - 1) to ≡ true
+    unfolding allKeep
+    more-kept k =
+        ap not (any-on (λ (j : ℕ). not (keepsAt t r ps j)) (i - 1) to (omega (arith, s .least)) (ap not k))
+        ∙ ap (λ (j : ℕ). allKeep t r ps j to) up
+        ∙ s .kept
+
+    more-single : doubleAt ps to (i - 1) ≡ false → anyFits (doubleAt ps to) (i - 1) (to - (i - 1)) ≡ false
+    more-single d =
+        any-on (doubleAt ps to) (i - 1) to (omega (arith, s .least)) d
+        ∙ ap (λ (j : ℕ). anyFits (doubleAt ps to) j (to - j)) up
+        ∙ s .none
+
+    more-small : (isOpen (placeAt ps (i - 1) .mode) ≡ true → placeAt ps (i - 1) .serial < 65536)
+        → (k : ℕ) → i - 1 ≤ k → k < to → isOpen (placeAt ps k .mode) ≡ true → placeAt ps k .serial < 65536
+    more-small own k l h =
+        by-test (eqb k (i - 1))
+        (λ e. subst⁻¹ (λ (j : ℕ). isOpen (placeAt ps j .mode) ≡ true → placeAt ps j .serial < 65536) (eqb-true k (i - 1) e) own)
+        (λ e. s .small k (let n = eqb-false k (i - 1) e in let m : i - 1 < k = lt-of-le-ne l (λ q. n (sym q)) in omega arith) h)
+
+    -- a free one
+    pub looked-free : not z ≡ false → Looked t r ps from to row (i - 1)
+    looked-free e =
+        let yes = on zero e in
+        let o = zero-free (placeAt ps (i - 1)) yes in
         record {
-          sound =
-              by-test (allKeep t r ps from to)
-              (λ a.
-              let yes = keep-each t r ps from to a (i - 1) (omega arith) (omega (arith, s .least)) in
-              absurd (false≢true (sym (off keeping n) ∙ yes)))
-              (λ a. simp a);
-          lowest = λ e. absurd (false≢true e);
-          held = λ e. absurd (false≢true e);
+          least = omega (arith, s .least);
+          few = omega (arith, s .few);
+          low = omega arith;
+          long = s .long;
+          held = held-on ps to row i (i - 1) (omega arith) o (s .held);
+          kept = more-kept (zero-keeps (placeAt ps (i - 1)) t r yes);
+          none = more-single (simp o);
+          small = more-small (λ a. absurd (false≢true (sym o ∙ a)));
         }
 
-    -- b is whether it is open under a serial that stands in the row
-    module _ (n : not k ≡ false) (b : Bool)
-        (told : (b ≡ isOpen (placeAt ps (i - 1) .mode) && standsIn row (placeAt ps (i - 1) .serial)) × (placeAt ps (i - 1) .serial < 65536)) where
-      double-is : b ≡ doubleAt ps to (i - 1)
-      double-is = told .0 ∙ double-by-row ps to row i (i - 1) (omega arith) long (told .1) (s .held)
-
-      pub one-double : b ≡ true → Surveyed t r ps from to (record { sound = false; lowest = lowest; row = row })
+    -- k is whether it keeps the rules for a place
+    module _ (n : not z ≡ true) (k : Bool) (keeping : k ≡ keeps t r (placeAt ps (i - 1))) where
+      pub one-breaks : not k ≡ true → Surveyed t r ps from to (record { sound = false; row = row })
       unfolding areSound
-      one-double e =
-          let two : true ≡ twice ps from to = double-found ps to i from (i - 1) (omega arith) (omega (arith, s .least)) (sym double-is ∙ e) in
+      one-breaks m =
           record {
-            sound = sym (and-false (allKeep t r ps from to)) ∙ ap (λ (d : Bool). allKeep t r ps from to && not d) two;
-            lowest = λ e. absurd (false≢true e);
+            sound =
+                by-test (allKeep t r ps from to)
+                (λ a.
+                let yes = keep-each t r ps from to a (i - 1) (omega arith) (omega (arith, s .least)) in
+                absurd (false≢true (sym (off keeping m) ∙ yes)))
+                (λ a. simp a);
             held = λ e. absurd (false≢true e);
+            small = λ e. absurd (false≢true e);
           }
 
-      -- one turn more
-      kept-more : allKeep t r ps (i - 1) to ≡ true
-      unfolding allKeep
-      kept-more =
-          ap not (any-on (λ (j : ℕ). not (keepsAt t r ps j)) (i - 1) to (omega (arith, s .least)) (ap not (on keeping n)))
-          ∙ ap (λ (j : ℕ). allKeep t r ps j to) up
-          ∙ s .kept
+      -- b is whether its serial stands in the row
+      module _ (m : not k ≡ false) (b : Bool) (told : (b ≡ standsIn row (placeAt ps (i - 1) .serial)) × (placeAt ps (i - 1) .serial < 65536)) where
+        is-open : isOpen (placeAt ps (i - 1) .mode) ≡ true
+        is-open = kept-open (placeAt ps (i - 1)) t r (on keeping m) (off zero n)
 
-      free-more : lowestFree ps (max from (i - 1)) to ≡ cond (isOpen (placeAt ps (i - 1) .mode)) lowest (i - 1)
-      unfolding lowestFree
-      free-more =
-          let here : max from (i - 1) ≡ i - 1 = omega arith in
-          let above : max from i ≡ i = omega arith in
-          ap (λ (j : ℕ). lowestFree ps j to) here
-          ∙ by-test (isOpen (placeAt ps (i - 1) .mode))
-          (λ o.
-          first-on (freeAt ps) (i - 1) to (omega (arith, s .least)) (simp o)
-          ∙ ap (λ (j : ℕ). lowestFree ps j to) (up ∙ sym above)
-          ∙ sym (s .free)
-          ∙ simp o)
-          (λ o. first-here (freeAt ps) (i - 1) to (omega (arith, s .least)) (simp o) ∙ simp o)
+        double-is : b ≡ doubleAt ps to (i - 1)
+        double-is =
+            told .0
+            ∙ sym (simp is-open)
+            ∙ double-by-row ps to row i (i - 1) (omega arith) long (told .1) (s .held)
 
-      pub looked-more : (x m : ℕ) → b ≡ false → x ≡ heldBy (placeAt ps (i - 1)) → m ≡ cond (isOpen (placeAt ps (i - 1) .mode)) lowest (i - 1)
-          → Looked t r ps from to (set row (i - 1) x) m (i - 1)
-      looked-more x m f e q =
-          record {
-            least = omega (arith, s .least);
-            few = omega (arith, s .few);
-            low = omega arith;
-            long = length-set row (i - 1) x ∙ s .long;
-            held = subst⁻¹ (λ (y : ℕ). Held (set row (i - 1) y) ps (i - 1) to) e
-                (held-more ps to row i (i - 1) (omega arith) (omega (arith, s .least)) (s .long) (s .held));
-            kept = kept-more;
-            none =
-                any-on (doubleAt ps to) (i - 1) to (omega (arith, s .least)) (sym double-is ∙ f)
-                ∙ ap (λ (j : ℕ). anyFits (doubleAt ps to) j (to - j)) up
-                ∙ s .none;
-            free = q ∙ sym free-more;
-          }
+        pub one-double : b ≡ true → Surveyed t r ps from to (record { sound = false; row = row })
+        unfolding areSound
+        one-double e =
+            let two : true ≡ twice ps from to = double-found ps to i from (i - 1) (omega arith) (omega (arith, s .least)) (sym double-is ∙ e) in
+            record {
+              sound = sym (and-false (allKeep t r ps from to)) ∙ ap (λ (d : Bool). allKeep t r ps from to && not d) two;
+              held = λ e. absurd (false≢true e);
+              small = λ e. absurd (false≢true e);
+            }
+
+        -- an open one
+        pub looked-open : b ≡ false → Looked t r ps from to (set row (i - 1) (placeAt ps (i - 1) .serial)) (i - 1)
+        looked-open f =
+            let own : heldBy (placeAt ps (i - 1)) ≡ placeAt ps (i - 1) .serial = simp is-open in
+            record {
+              least = omega (arith, s .least);
+              few = omega (arith, s .few);
+              low = omega arith;
+              long = length-set row (i - 1) (placeAt ps (i - 1) .serial) ∙ s .long;
+              held = subst (λ (y : ℕ). Held (set row (i - 1) y) ps (i - 1) to) own
+                  (held-more ps to row i (i - 1) (omega arith) (omega (arith, s .least)) (s .long) (s .held));
+              kept = more-kept (on keeping m);
+              none = more-single (sym double-is ∙ f);
+              small = more-small (λ o. told .1);
+            }
 
   -- after the last turn
-  pub all-looked : (row : List ℕ) (lowest i : ℕ) → i ≤ from → Looked t r ps from to row lowest i
-      → Surveyed t r ps from to (record { sound = true; lowest = lowest; row = row })
+  pub all-looked : (row : List ℕ) (i : ℕ) → i ≤ from → Looked t r ps from to row i → Surveyed t r ps from to (record { sound = true; row = row })
   unfolding areSound
-  all-looked row lowest i out s =
-      let all : max from i ≡ from = omega arith in
+  all-looked row i out s =
       let keep : allKeep t r ps from to ≡ true = each-keep t r ps from to (λ k l h. keep-each t r ps i to (s .kept) k (omega arith) h) in
       record {
         sound = sym (simp keep (ap not (sym (none-found ps to i from out (s .none)))));
-        lowest = λ e. s .free ∙ ap (λ (j : ℕ). lowestFree ps j to) all;
         held = λ e. held-from ps to row i from out (s .low) (s .held);
+        small = λ e k l h. s .small k (omega arith) h;
       }
 
-pub ruleset looking = (looked-none, one-breaks, one-double, looked-more, all-looked)
+pub ruleset looking = (looked-none, looked-free, one-breaks, one-double, looked-open, all-looked)
+
+-- the loop that looks for a place at which no serial stands: what is left decides as all does
+pub record Bare (row : List ℕ) (from to end i : ℕ) : Type 0 where
+  pub limit : end ≡ min to 16
+  pub same : freeIn row i to ≡ freeIn row from to
+
+module _ (row : List ℕ) (from to end : ℕ) where
+  pub bare-all : end ≡ min to 16 → Bare row from to end from
+  bare-all e = record { limit = e; same = refl }
+
+  module _ (i : ℕ) (l : Bare row from to end i) where
+    at : i < end → bareAt row i ≡ eqb (getD row i 0) NONE
+    at h = ap (λ (b : Bool). b || eqb (getD row i 0) NONE) (lt-leb 16 i (omega (arith, l .limit)))
+
+    pub bare-here : i < end → getD row i 0 ≡ NONE → i ≡ freeIn row from to
+    unfolding freeIn
+    bare-here h e = sym (first-here (bareAt row) i to (omega (arith, l .limit)) (at h ∙ eq-eqb (getD row i 0) NONE e)) ∙ l .same
+
+    pub bare-on : i < end → (getD row i 0 ≡ NONE → ⊥) → Bare row from to end (i + 1)
+    unfolding freeIn
+    bare-on h e =
+        record { limit = l .limit; same = sym (first-on (bareAt row) i to (omega (arith, l .limit)) (at h ∙ ne-eqb (getD row i 0) NONE e)) ∙ l .same }
+
+    pub bare-end : end ≤ i → i ≡ freeIn row from to
+    unfolding freeIn
+    bare-end h =
+        by-test (ltb i to)
+        (λ t.
+        let below = ltb-true i to t in
+        let past : bareAt row i ≡ true = ap (λ (b : Bool). b || eqb (getD row i 0) NONE) (le-leb 16 i (omega (arith, l .limit))) in
+        sym (first-here (bareAt row) i to below past))
+        (λ f. sym (first-end (bareAt row) i to (ltb-false i to f)))
+        ∙ l .same
+
+pub ruleset baring = (bare-all, bare-here, bare-on, bare-end)
 
 -- what a beginning finds, by what the pass told
 module _ (t r : ℕ) (ps : List Place) (from to next : ℕ) (s : Seen) (seen : Surveyed t r ps from to s) where
@@ -145,25 +199,26 @@ module _ (t r : ℕ) (ps : List Place) (from to next : ℕ) (s : Seen) (seen : S
   unfolding opening
   opening-broken n = simp (sym (seen .sound) ∙ not-true (s .sound) n)
 
-  module _ (n : not (s .sound) ≡ false) where
+  module _ (n : not (s .sound) ≡ false) (long : length ps ≡ 16) (k : ℕ) (found : k ≡ freeIn (s .row) from to) where
     sound : s .sound ≡ true
     sound = not-false (s .sound) n
 
-    pub opening-full : to ≤ s .lowest → Full ≡ opening t r ps from to next
+    lowest : k ≡ lowestFree ps from to
+    lowest = found ∙ free-in-row ps to (s .row) from long (seen .held sound) (seen .small sound)
+
+    pub opening-full : to ≤ k → Full ≡ opening t r ps from to next
     unfolding opening
-    opening-full h =
-        simp (sym (seen .sound) ∙ sound, le-ltb (lowestFree ps from to) to (omega (arith, seen .lowest sound, h)))
+    opening-full h = simp (sym (seen .sound) ∙ sound, le-ltb (lowestFree ps from to) to (omega (arith, lowest, h)))
 
-    pub opening-inside : s .lowest < to → from ≤ to
+    pub opening-inside : k < to → from ≤ to
     unfolding lowestFree
-    opening-inside h = omega (arith, seen .lowest sound, first-from (freeAt ps) from (to - from), h)
+    opening-inside h = omega (arith, lowest, first-from (freeAt ps) from (to - from), h)
 
-    pub opening-at : (x : ℕ) → length ps ≡ 16 → s .lowest < to → x ≡ serialIn (s .row) (to - from) next → At (s .lowest) x ≡ opening t r ps from to next
+    pub opening-at : (x : ℕ) → k < to → x ≡ serialIn (s .row) (to - from) next → At k x ≡ opening t r ps from to next
     unfolding opening serialIn
-    opening-at x long h e =
+    opening-at x h e =
         let is = e ∙ serial-in-row ps to (s .row) from next long (seen .held sound) in
-        (λ i. At (seen .lowest sound i) (is i))
-        ∙ simp (sym (seen .sound) ∙ sound, lt-ltb (lowestFree ps from to) to (omega (arith, seen .lowest sound, h)))
+        (λ i. At (lowest i) (is i)) ∙ simp (sym (seen .sound) ∙ sound, lt-ltb (lowestFree ps from to) to (omega (arith, lowest, h)))
 
 pub ruleset opened = (opening-broken, opening-full, opening-inside, opening-at)
 
@@ -177,6 +232,17 @@ pub record Tried (row : List ℕ) (next most serial tried : ℕ) : Type 0 where
   pub same : firstFit (unheld row next) tried (most - tried) ≡ firstFit (unheld row next) 0 most
 
 module _ (row : List ℕ) (next most : ℕ) where
+  -- the next one itself
+  pub serial-next : (b : Bool) → next < 65536 → b ≡ standsIn row next → not b ≡ true → next ≡ serialIn row most next
+  unfolding serialIn firstFit
+  serial-next b h told n =
+      let free : unheld row next 0 ≡ true = ap (λ (s : ℕ). not (standsIn row s)) (sym (upward-none next h)) ∙ ap not (sym told) ∙ n in
+      by-most most free
+    where
+      by-most : (most : ℕ) → unheld row next 0 ≡ true → next ≡ upward next (firstFit (unheld row next) 0 most)
+      by-most zero free = upward-none next h
+      by-most (suc k) free = simp free (upward-none next h)
+
   pub none-tried : next < 65536 → Tried row next most next 0
   none-tried h = let all : most - 0 ≡ most = omega arith in record { here = upward-none next h; same = ap (firstFit (unheld row next) 0) all }
 
@@ -202,4 +268,4 @@ module _ (row : List ℕ) (next most : ℕ) where
             same = sym (first-on (unheld row next) tried most h (told-at ∙ n)) ∙ t .same;
           }
 
-pub ruleset trying = (none-tried, one-tried, serial-here, serial-last)
+pub ruleset trying = (serial-next, none-tried, one-tried, serial-here, serial-last)

@@ -1,7 +1,7 @@
 -- The serials that are open, as a row of numbers that is searched at once: at each place the serial under which it is open.
 -- Assumes nothing.
-use Prim.Native.Nat.{ℕ, _<_}
-use mathlib.Core.Bool.{Bool, true, not, _&&_, cond}
+use Prim.Native.Nat.{ℕ, _-_, _≤_, _<_}
+use mathlib.Core.Bool.{Bool, true, not, _&&_, _||_, cond}
 use mathlib.Core.List.{List}
 use mathlib.Core.Path.{_≡_}
 use lib.Dec.{eqb, leb, ltb}
@@ -10,7 +10,7 @@ use Rattle.octets.specs.Searches.{firstFit, anyFits}
 use Rattle.place.specs.declared.Place.{Place}
 use Rattle.place.specs.Rules.{isOpen}
 use Rattle.places.specs.declared.Seen.{Seen}
-use Rattle.places.specs.Rows.{placeAt, lowestFree, areSound, upward}
+use Rattle.places.specs.Rows.{placeAt, areSound, upward}
 
 -- no serial: the number after the last
 abbrev pub NONE : ℕ
@@ -33,8 +33,15 @@ standsIn row s = anyFits (standsAt row s) 0 16
 unfoldable pub serialIn : List ℕ → ℕ → ℕ → ℕ
 serialIn row most next = upward next (firstFit (λ j. not (standsIn row (upward next j))) 0 most)
 
+-- the lowest place of the row at which no serial stands; behind the row none does
+abbrev pub bareAt : List ℕ → ℕ → Bool
+bareAt row k = leb 16 k || eqb (getD row k 0) NONE
+
+unfoldable pub freeIn : List ℕ → ℕ → ℕ → ℕ
+freeIn row from to = firstFit (bareAt row) from (to - from)
+
 -- what one pass over the places tells; where the rules are broken, only that they are
 pub record Surveyed (t r : ℕ) (ps : List Place) (from to : ℕ) (s : Seen) : Type 0 where
   pub sound : s .sound ≡ areSound t r ps from to
-  pub lowest : s .sound ≡ true → s .lowest ≡ lowestFree ps from to
   pub held : s .sound ≡ true → Held (s .row) ps from to
+  pub small : s .sound ≡ true → (k : ℕ) → from ≤ k → k < to → isOpen (placeAt ps k .mode) ≡ true → placeAt ps k .serial < 65536

@@ -10,6 +10,8 @@ use Rattle.place.specs.declared.Place.{Place}
 use Rattle.place.specs.declared.Reply.{Reply}
 use Rattle.place.specs.Rules.{free, isOpen, holds, keeps}
 use Rattle.place.specs.Steps.{NOTHING, ticked, fits}
+use Rattle.places.specs.declared.Fitting.{Fitting}
+use Rattle.places.specs.declared.Fitting.the-variants as fit
 use Rattle.places.specs.declared.Opening.{Opening}
 use Rattle.places.specs.declared.Opening.the-variants.{Broken, Full, At}
 use Rattle.places.specs.declared.Report.{Report}
@@ -76,6 +78,11 @@ opening t r ps from to next =
 -- the place that a reply fits; the end of the row where it fits none
 unfoldable pub fitting : List Place → ℕ → ℕ → ℕ → Reply → ℕ
 fitting ps from to s w = firstFit (fitsAt ps s w) from (to - from)
+
+-- "STATE, then .. STRAY": what a reply finds
+unfoldable pub reached : ℕ → ℕ → List Place → ℕ → ℕ → ℕ → Reply → Fitting
+reached t r ps from to s w =
+    cond (areSound t r ps from to) (cond (ltb (fitting ps from to s w) to) (fit.At (fitting ps from to s w)) fit.Stray) fit.Broken
 
 -- what a tick makes of a place
 abbrev pub aged : ℕ → ℕ → Place → Place

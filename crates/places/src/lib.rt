@@ -1,10 +1,9 @@
 // The searches over the places from one number up to another, and the tick of all of them.
 ghost use mathlib.Core.Path.{_≡_};
-ghost use mathlib.Core.Bool.{_&&_, cond};
-ghost use Prim.Native.Nat.{_<_, min, max};
-ghost use Rattle.place.specs.Rules.{isOpen};
-ghost use Rattle.places.specs.Rows.{areSound, opening, upward, fitting, swept};
-ghost use Rattle.places.specs.Held.{heldBy, standsIn, serialIn, Surveyed};
+ghost use Prim.Native.Nat.{_<_, min};
+ghost use Rattle.octets.specs.Searches.{firstFit};
+ghost use Rattle.places.specs.Rows.{areSound, opening, reached, upward, swept};
+ghost use Rattle.places.specs.Held.{standsAt, standsIn, freeIn, serialIn, Surveyed};
 use place::NOTHING;
 use place::Place;
 use place::Reply;
@@ -26,10 +25,16 @@ pub enum Opening {
     At(usize, u16),
 }
 
-// What one pass tells: whether the places keep the rules, and where they do the lowest free one and the serials that are open.
+// What a reply finds: that the rules are broken, that it fits no place, or the place that it fits.
+pub enum Fitting {
+    Broken,
+    Stray,
+    At(usize),
+}
+
+// What one pass tells: whether the places keep the rules, and where they do the serials that are open, each at its place.
 struct Seen {
     sound: bool,
-    lowest: usize,
     row: [u32; 16],
 }
 
@@ -37,16 +42,6 @@ struct Seen {
 pub struct Swept {
     pub places: [Place; 16],
     pub reports: [Report; 16],
-}
-
-// The serial under which a place is open, and a number that is no serial where it is not.
-fn held_by(p: Place) -> u32
-    ensures { λ r. ⌜ r ≡ heldBy p ⌝ }
-{
-    if place::is_open(p.mode) {
-        return p.serial as u32;
-    }
-    NONE
 }
 
 // Whether a serial stands in a row; no early way out, so that the compiler compares many at once.
@@ -65,15 +60,27 @@ fn stands_in(row: &[u32; 16], serial: u16) -> bool
     hit
 }
 
-// Whether a place is open under a serial that stands in the row.
-fn is_double(row: &[u32; 16], p: Place) -> bool
-    ensures { λ r. ⌜ r ≡ isOpen (p .mode) && standsIn (now (row .entry)) (p .serial) ⌝ }
+// Whether the serial of a place stands in a row.
+fn is_taken(row: &[u32; 16], p: Place) -> bool
+    ensures { λ r. ⌜ r ≡ standsIn (now (row .entry)) (p .serial) ⌝ }
     ensures { λ r. ⌜ p .serial < 65536 ⌝ }
 {
-    if !place::is_open(p.mode) {
-        return false;
-    }
     stands_in(row, p.serial)
+}
+
+// The first place of a row at which a serial stands, 16 where it stands at none.
+fn place_in(row: &[u32; 16], serial: u16) -> usize
+    ensures { λ r. ⌜ r ≡ firstFit (standsAt (now (row .entry)) serial) 0 16 ⌝ }
+{
+    let wanted = serial as u32;
+    let mut i: usize = 0;
+    while i < 16 {
+        if row[i] == wanted {
+            return i;
+        }
+        i = i + 1;
+    }
+    i
 }
 
 fn lower(x: usize, y: usize) -> usize
@@ -85,21 +92,17 @@ fn lower(x: usize, y: usize) -> usize
     y
 }
 
-fn higher(x: usize, y: usize) -> usize
-    ensures { λ r. ⌜ r ≡ max x y ⌝ }
+// The lowest place of a row at which no serial stands, `to` where there is none.
+fn free_in(row: &[u32; 16], from: usize, to: usize) -> usize
+    ensures { λ r. ⌜ r ≡ freeIn (now (row .entry)) from to ⌝ }
 {
-    if x < y {
-        return y;
-    }
-    x
-}
-
-// The lower of a place, where it is free, and the lowest free one behind it.
-fn freer(p: Place, i: usize, lowest: usize) -> usize
-    ensures { λ r. ⌜ r ≡ cond (isOpen (p .mode)) lowest i ⌝ }
-{
-    if place::is_open(p.mode) {
-        return lowest;
+    let end = lower(to, 16);
+    let mut i = from;
+    while i < end {
+        if row[i] == NONE {
+            return i;
+        }
+        i = i + 1;
     }
     i
 }
@@ -118,6 +121,9 @@ pub fn after(serial: u16) -> u16
 fn serial_in(row: &[u32; 16], most: usize, next: u16) -> u16
     ensures { λ r. ⌜ r ≡ serialIn (now (row .entry)) most next ⌝ }
 {
+    if !stands_in(row, next) {
+        return next;
+    }
     let mut serial = next;
     let mut tried: usize = 0;
     while tried < most {
@@ -136,32 +142,21 @@ fn survey(places: [Place; 16], from: usize, to: usize, timeout: u8, resends: u8)
 {
     let mut row = [NONE; 16];
     let mut i = lower(to, 16);
-    let mut lowest = higher(from, i);
     while from < i {
-        i = i - 1;
-        let p = places[i];
-        if !p.keeps(timeout, resends) {
-            return Seen {
-                sound: false,
-                lowest,
-                row,
-            };
+        let k = i - 1;
+        let p = places[k];
+        if !p.is_zero() {
+            if !p.keeps(timeout, resends) {
+                return Seen { sound: false, row };
+            }
+            if is_taken(&row, p) {
+                return Seen { sound: false, row };
+            }
+            row[k] = p.serial as u32;
         }
-        if is_double(&row, p) {
-            return Seen {
-                sound: false,
-                lowest,
-                row,
-            };
-        }
-        row[i] = held_by(p);
-        lowest = freer(p, i, lowest);
+        i = k;
     }
-    Seen {
-        sound: true,
-        lowest,
-        row,
-    }
+    Seen { sound: true, row }
 }
 
 // Whether every place keeps the rules for a place, and no two are open with one serial.
@@ -187,31 +182,40 @@ pub fn find_opening(
     if !seen.sound {
         return Opening::Broken;
     }
-    let place = seen.lowest;
+    let row = seen.row;
+    let place = free_in(&row, from, to);
     if to <= place {
         return Opening::Full;
     }
-    let row = seen.row;
     Opening::At(place, serial_in(&row, to - from, next))
 }
 
-// The place that a reply fits, `to` where it fits none.
-pub fn fitting(places: [Place; 16], from: usize, to: usize, serial: u16, reply: Reply) -> usize
-    ensures { λ r. ⌜ r ≡ fitting places from to serial reply ⌝ }
+// The place that a reply fits, in places that keep the rules, where no serial is open twice.
+pub fn find_fitting(
+    places: [Place; 16],
+    from: usize,
+    to: usize,
+    timeout: u8,
+    resends: u8,
+    serial: u16,
+    reply: Reply,
+) -> Fitting
+    ensures { λ r. ⌜ r ≡ reached timeout resends places from to serial reply ⌝ }
 {
-    let end = lower(to, 16);
-    let mut i = from;
-    while i < end {
-        let p = places[i];
-        if p.fits(serial, reply) {
-            return i;
-        }
-        i = i + 1;
+    let seen = survey(places, from, to, timeout, resends);
+    if !seen.sound {
+        return Fitting::Broken;
     }
-    if i < to {
-        return to;
+    let row = seen.row;
+    let at = place_in(&row, serial);
+    if 16 <= at {
+        return Fitting::Stray;
     }
-    i
+    let p = places[at];
+    if !place::awaits(p.mode, reply) {
+        return Fitting::Stray;
+    }
+    Fitting::At(at)
 }
 
 // A tick of every place.

@@ -1,6 +1,6 @@
 -- `places::find_opening` meets its contract by what the pass told. Assumes nothing.
-use Rattle.octets.proofs.Asked.{unasked}
 use borrow.Author.Needs.{needs}
+use Rattle.octets.proofs.Asked.{unasked}
 use Rattle.places.proofs.Loops.{opened}
 use Rattle.places.proofs.find_opening.Statement.{statement}
 use Rattle.places.proofs.find_opening.Tie as tie
@@ -11,7 +11,8 @@ find-opening-spec =
     (tie.spec
     unasked
     (λ c. search opened)  -- !seen.sound
-    (λ c. search opened)  -- to <= place
-    (λ c. search opened)
+    unasked
+    (λ c. search (opened, needs))  -- to <= place
+    (λ c. search (opened, needs))
     unasked
     (λ c. search (opened, needs)))

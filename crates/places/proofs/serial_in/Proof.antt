@@ -19,6 +19,8 @@ serial-in-spec =
     (tie.spec
     Inv-loop
     μ-loop
+    unasked
+    (λ c. search (trying, needs))  -- !stands_in(row, next)
     (λ c. search (trying, needs))
     unasked
     (λ c. search (trying, needs))  -- !stands_in(row, serial)

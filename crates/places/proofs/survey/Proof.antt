@@ -1,4 +1,4 @@
--- `places::survey` meets its contract. The loop's invariant: the places from i on keep the rules, and row and lowest tell of them.
+-- `places::survey` meets its contract. The loop's invariant: the places from i on keep the rules, and the row has what they hold.
 -- Assumes nothing.
 use Prim.Native.Nat.{_-_}
 use borrow.Author.Needs.{needs}
@@ -8,10 +8,10 @@ use Rattle.places.proofs.survey.Statement.{statement}
 use Rattle.places.proofs.survey.Tie as tie
 
 abbrev Inv-loop : tie.InvT-loop
-Inv-loop from to timeout resends places row₀ i₀ lowest₀ row i lowest = Looked timeout resends places from to row lowest i
+Inv-loop from to timeout resends places row₀ i₀ row i = Looked timeout resends places from to row i
 
 abbrev μ-loop : tie.MeasureT-loop
-μ-loop from to timeout resends places row₀ i₀ lowest₀ row i lowest = i - from
+μ-loop from to timeout resends places row₀ i₀ row i = i - from
 
 pub survey-spec : {M : Type 1} → statement M
 survey-spec =
@@ -20,19 +20,20 @@ survey-spec =
     Inv-loop
     μ-loop
     unasked
-    unasked
     (λ c. search (looking, needs))
     (λ c. search needs)
     (λ c. search needs)
     (λ c. search needs)
     unasked
+    unasked
     (λ c. search (looking, needs))  -- !p.keeps(timeout, resends)
     unasked
-    (λ c. search (looking, needs))  -- is_double(&row, p)
-    unasked
+    (λ c. search (looking, needs))  -- is_taken(&row, p)
     (λ c. search needs)
     (λ c. search needs)
-    unasked
+    (λ c. search needs)
+    (λ c. search needs)
+    (λ c. search (looking, needs))  -- !p.is_zero()
     (λ c. search needs)
     (λ c. search (looking, needs))
     (λ c. search (looking, needs)))

@@ -11,14 +11,14 @@ reply-spec =
     (tie.spec
     unasked
     unasked
-    (λ c. search replying depth 6)  -- !self.is_legal()
+    (λ c. search replying)  -- !in_range(timeout, resends)
     unasked
-    unasked
-    (λ c. search replying depth 6)  -- Exchanges::PLACES <= place
-    (λ c. search needs)
     (λ c. search needs)
     unasked
     (λ c. search needs)
-    (λ c. search needs)
     unasked
-    (λ c. search replying depth 6))
+    (λ c. search needs)
+    (λ c κs. search replying)
+    (λ c. search replying)  -- Fitting::Broken
+    (λ c. search replying)  -- Fitting::Stray
+    (λ c. search replying))

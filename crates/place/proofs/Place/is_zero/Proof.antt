@@ -1,5 +1,6 @@
--- `place::is_zero` meets its contract by its tests. Assumes nothing.
-use Rattle.place.proofs.Answers.{asked}
+-- `place::is_zero` meets its contract: its numbers as one are zero where each is. Assumes nothing.
+use borrow.Author.Needs.{needs}
+use Rattle.place.proofs.Answers.{as-one}
 use Rattle.place.proofs.Place.is_zero.Statement.{statement}
 use Rattle.place.proofs.Place.is_zero.Tie as tie
 
@@ -7,7 +8,14 @@ pub is-zero-spec : {M : Type 1} → statement M
 is-zero-spec =
     tie.close
     (tie.spec
-    (λ c. search asked)  -- self.serial != 0
-    (λ c. search asked)  -- self.mode != FREE
-    (λ c. search asked)  -- self.resends != 0
-    (λ c. search asked))
+    (λ c. search needs)
+    (λ c. search needs)
+    (λ c. search needs)
+    (λ c. search needs)
+    (λ c. search needs)
+    (λ c. search needs)
+    (λ c. search needs)
+    (λ c. search needs)
+    (λ c. search needs)
+    (λ c. search needs)
+    (λ c. search as-one))
