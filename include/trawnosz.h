@@ -432,7 +432,7 @@ trawnosz_found trawnosz_release(uint8_t *out, size_t out_length);
  * memmove and memset need; read out of the archive's code by tests/stack. ----
  *
  *   trawnosz_answer_to                304
- *   trawnosz_begin_and_write          756
+ *   trawnosz_begin_and_write          752
  *   trawnosz_exchanges_fresh          104
  *   trawnosz_find_description         112
  *   trawnosz_find_object              112
@@ -448,12 +448,12 @@ trawnosz_found trawnosz_release(uint8_t *out, size_t out_length);
  *   trawnosz_read_packet              176
  *   trawnosz_receive                  304
  *   trawnosz_release                   31
- *   trawnosz_reply_answer             740
- *   trawnosz_reply_bad_answer         740
- *   trawnosz_reply_confirm            740
- *   trawnosz_reply_deny               740
- *   trawnosz_take_packet              916
- *   trawnosz_tick                     596
+ *   trawnosz_reply_answer             848
+ *   trawnosz_reply_bad_answer         848
+ *   trawnosz_reply_confirm            848
+ *   trawnosz_reply_deny               848
+ *   trawnosz_take_packet             1024
+ *   trawnosz_tick                     672
  *   trawnosz_unit_length                8
  *   trawnosz_write_object             234
  *   trawnosz_write_packet             224

@@ -182,13 +182,15 @@ module _ (x : Exchanges) (out : List ℕ) (d : Draft) (l : ℕ) (f : Found) (tol
     pub begin-inside : f .place < 16
     begin-inside = subst⁻¹ (λ (y : Found). y .place < 16) told (found-place x (is true (on judged n)))
 
-    -- h is the header that the packet writer was handed, w what it said, k whether that is good, and q what it left in the output
-    module _ (c : ℕ) (h : Header) (w : Verdict) (k : Bool) (opened : c ≡ cond (isOpen (modeOf (d .command))) (d .command) 0)
-        (header : h ≡ headedBy d (f .serial) c) (says : w ≡ packetVerdict rows out h l) (well : k ≡ isGood w) where
+    -- h is the header that the packet writer was handed, w what it said, which is no matter of the serial, k whether that is good, and q what it
+    -- left in the output
+    module _ (c s : ℕ) (h : Header) (w : Verdict) (k : Bool) (opened : c ≡ cond (isOpen (modeOf (d .command))) (d .command) 0)
+        (header : h ≡ headedBy d s c) (says : w ≡ packetVerdict rows out h l) (well : k ≡ isGood w) where
       written : w ≡ begunVerdict rows x out d l
+      unfolding packetVerdict
       written =
           says
-          ∙ ap (λ (y : Header). packetVerdict rows out y l) (header ∙ ap (λ (y : Found). headedBy d (y .serial) c) told)
+          ∙ ap (λ (y : Header). packetVerdict rows out y l) header
           ∙ draft-judged rows out d l (found x .serial) c opened
           ∙ draft-decides rows x out d l (is true (on judged n))
 
@@ -217,11 +219,12 @@ module _ (x : Exchanges) (out : List ℕ) (d : Draft) (l : ℕ) (f : Found) (tol
             ∙ (λ i. opening-at rows x out d l (written i) (told i))
             ∙ sym (begun-good rows x out d l taken)
 
-        pub begin-written-output : (q : List ℕ) → q ≡ writtenPacket rows out h l → q ≡ begunOutput rows x out d l
-        begin-written-output q e =
+        pub begin-written-output : (q : List ℕ) → s ≡ f .serial → q ≡ writtenPacket rows out h l → q ≡ begunOutput rows x out d l
+        begin-written-output q same e =
             let own : c ≡ d .command = opened ∙ ap (λ (b : Bool). cond b (d .command) 0) (taken-by rows x out d l taken .opens) in
+            let its = same ∙ ap (λ (y : Found). y .serial) told in
             e
-            ∙ ap (λ (y : Header). writtenPacket rows out y l) (header ∙ λ i. headedBy d (told i .serial) (own i))
+            ∙ ap (λ (y : Header). writtenPacket rows out y l) (header ∙ λ i. headedBy d (its i) (own i))
             ∙ sym (output-written rows x out d l taken)
 
 pub ruleset replying = (reply-unset, reply-broken, reply-stray, reply-inside, reply-good)

@@ -5,6 +5,10 @@ use Rattle.exchange.proofs.Calls.{beginning}
 use Rattle.exchange.proofs.Exchanges.begin_and_write.Statement.{statement}
 use Rattle.exchange.proofs.Exchanges.begin_and_write.Tie as tie
 
+-- the packet that was written stands before the refusals, so that an edit that opens a place without it is refused there
+returns-3 : tie.Need-returns-3
+returns-3 c = (search beginning, search beginning)
+
 returns : tie.Need-returns
 returns c = (search beginning, search beginning)
 
@@ -16,9 +20,6 @@ add-t16 c = search beginning
 
 enter-requires : tie.Need-enter-requires
 enter-requires c κs = search beginning
-
-returns-3 : tie.Need-returns-3
-returns-3 c = (search beginning, search beginning)
 
 pub begin-and-write-spec : {M : Type 1} → statement M
 begin-and-write-spec =
