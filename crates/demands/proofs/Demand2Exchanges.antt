@@ -12,7 +12,6 @@ use borrow.Author.Tests.{le-leb}
 use lib.Dec.{eqb}
 use lib.ListN.{getD, take, drop}
 use Rattle.octets.specs.Searches.{firstFit}
-use Rattle.exchange.specs.declared.Begun.{Begun}
 use Rattle.exchange.specs.declared.Draft.{Draft}
 use Rattle.exchange.specs.declared.Exchanges.{Exchanges}
 use Rattle.exchange.specs.Before.{Left, inTwo}
@@ -23,7 +22,7 @@ use Rattle.exchange.specs.Table.{inRange, legal, blank, made, found, placed, en
 use Rattle.exchange.proofs.Draft.{the-row}
 use Rattle.exchange.proofs.Answers.{made-refused, made-good}
 use Rattle.exchange.proofs.Before.{others-refused, same-verdict, same-output, same-written, same-unfound, refused-differs}
-use Rattle.exchange.proofs.Changes.{begin-refused, taken-so, begun-found, given-unopened, given-first, given-next, begun-inside, taken-free, taken-lowest, begin-others}
+use Rattle.exchange.proofs.Changes.{refused-same, taken-so, begun-found, given-unopened, given-first, given-next, begun-inside, taken-free, taken-lowest, begin-others}
 use Rattle.exchange.proofs.Changes.{reply-rest, tick-rest, tick-tells, settings-made}
 use Rattle.exchange.proofs.Denials.{resent-when, failed-when, resent-place, failed-place, tick-silent}
 use Rattle.exchange.proofs.Histories.{accounted}
@@ -71,6 +70,11 @@ module _ (t r : ℕ) (fresh : isGood (made t r .verdict) ≡ true) (cs : List Ca
 pub exchange-broken : (x : Exchanges) → legal x ≡ false → (c : Call) → verdictOf x c ≡ refusal STATE 0
 exchange-broken = broken-refused
 
+-- a refused call, of any kind, uses up nothing: the next beginning that is good gives the serial that it would have given in its place
+pub serial-not-used-up : (x : Exchanges) (c : Call) → isGood (verdictOf x c) ≡ false → (a : Asked) → isGood (begunBy (after x c) a .verdict) ≡ true
+    → begunBy (after x c) a .serial ≡ found x .serial
+serial-not-used-up x c e a g = begun-found (after x c) a g ∙ ap (λ (y : Exchanges). found y .serial) (refused-same x c e)
+
 -- SERIAL NUMBERS: it "takes the lowest free place and the first serial, from the next one upward and past 65,535 to 0, that is not open; the one
 -- after it is then next." Document 02, Q-8: "it writes the packet with the serial it would give, and only then opens the place."
 module _ (x : Exchanges) (sound : Sound x) (a : Asked) where
@@ -81,12 +85,6 @@ module _ (x : Exchanges) (sound : Sound x) (a : Asked) where
 
   pub begin-where-full : ((k : ℕ) → k < 16 → isOpen (placeAt (x .places) k .mode) ≡ true) → begunBy x a ≡ unbegun x (refusal FULL 0)
   begin-where-full = begin-full x sound a
-
-  -- a refused one uses up nothing: the next that is good gives the serial that the refused one would have given
-  pub serial-not-used-up : isGood (begunBy x a .verdict) ≡ false → (b : Asked) → isGood (begunBy (begunBy x a .state) b .verdict) ≡ true
-      → begunBy (begunBy x a .state) b .serial ≡ found x .serial
-  serial-not-used-up e b g =
-      begun-found (begunBy x a .state) b g ∙ ap (λ (y : Begun). found (y .state) .serial) (begin-refused x a e)
 
   module _ (taken : isGood (begunBy x a .verdict) ≡ true) where
     pub serial-not-open : isOpenAs (x .places) 0 16 (begunBy x a .serial) ≡ false

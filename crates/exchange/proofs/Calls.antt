@@ -20,14 +20,11 @@ use Rattle.place.specs.declared.Step.{Step}
 use Rattle.place.specs.Rules.{free, opened, isOpen}
 use Rattle.place.specs.declared.Place.{Place}
 use Rattle.place.specs.Steps.{NOTHING, replied}
-use Rattle.places.specs.declared.Fitting.{Fitting}
-use Rattle.places.specs.declared.Fitting.the-variants as fit
-use Rattle.places.specs.declared.Opening.{Opening}
-use Rattle.places.specs.declared.Opening.the-variants.{Broken, Full, At}
+use Rattle.places.specs.declared.Search.{Search}
+use Rattle.places.specs.declared.Search.the-variants.{Broken, Nothing, At}
 use Rattle.places.specs.declared.Swept.{Swept}
 use Rattle.places.specs.Rows.{placeAt, areSound, opening, reached, upward, fitting, nothing, swept}
-use Rattle.places.proofs.Openings.{is-broken, is-full, is-at}
-use Rattle.places.proofs.Reaching.{was-broken, was-stray, was-at}
+use Rattle.places.proofs.Sought.{is-broken, is-nothing, is-at}
 use Rattle.exchange.specs.declared.Exchanges.{Exchanges}
 use Rattle.exchange.specs.declared.Draft.{Draft}
 use Rattle.exchange.specs.declared.Made.{Made}
@@ -55,21 +52,21 @@ module _ (x : Exchanges) (ranged : Bool) (r : ranged ≡ inRange (x .timeout) (x
   pub find-unset : (f : Found) → not ranged ≡ true → f ≡ unfound STATE → f ≡ found x
   find-unset f n e = e ∙ sym (found-state x (sym (out-of-range n)))
 
-  module _ (n : not ranged ≡ false) (o : Opening) (told : o ≡ opening (x .timeout) (x .resends) (x .places) 0 16 (x .next)) where
+  module _ (n : not ranged ≡ false) (o : Search) (told : o ≡ opening (x .timeout) (x .resends) (x .places) 0 16 (x .next)) where
     sound-is : (b : Bool) → areSound (x .timeout) (x .resends) (x .places) 0 16 ≡ b → legal x ≡ b
     sound-is b e = sym (places-decide b n (sym e))
 
     pub find-broken : (f : Found) → o ≡ Broken → f ≡ unfound STATE → f ≡ found x
-    find-broken f q e = e ∙ sym (found-state x (sound-is false (is-broken (x .timeout) (x .resends) (x .places) 0 16 (x .next) (sym q ∙ told))))
+    find-broken f q e = e ∙ sym (found-state x (sound-is false (is-broken (x .timeout) (x .resends) (x .places) 0 16 _ _ (sym q ∙ told))))
 
-    pub find-full : (f : Found) → o ≡ Full → f ≡ unfound FULL → f ≡ found x
+    pub find-full : (f : Found) → o ≡ Nothing → f ≡ unfound FULL → f ≡ found x
     find-full f q e =
-        let is = is-full (x .timeout) (x .resends) (x .places) 0 16 (x .next) (sym q ∙ told) in
+        let is = is-nothing (x .timeout) (x .resends) (x .places) 0 16 _ _ (sym q ∙ told) in
         e ∙ sym (found-full x (sound-is true (is .0)) (is .1))
 
     pub find-good : (v : Verdict) (k s : ℕ) → o ≡ At k s → v ≡ good → _≡_ {A = Found} (record { verdict = v; place = k; serial = s }) (found x)
     find-good v k s q e =
-        let is = is-at (x .timeout) (x .resends) (x .places) 0 16 (x .next) k s (sym q ∙ told) in
+        let is = is-at (x .timeout) (x .resends) (x .places) 0 16 _ _ k s (sym q ∙ told) in
         (λ i. record { verdict = e i; place = is .2 i; serial = is .3 i }) ∙ sym (found-good x (sound-is true (is .0)) (is .1))
 
 pub ruleset keeping = (out-of-range, places-decide)
@@ -81,21 +78,21 @@ module _ (x : Exchanges) (s : ℕ) (w : Reply) (ranged : Bool) (r : ranged ≡ i
   pub reply-unset : (a : Replied) → not ranged ≡ true → a ≡ unanswered x STATE → a ≡ answered x s w
   reply-unset a n e = e ∙ sym (answered-state x s w (sym (out-of-range x ranged r n)))
 
-  module _ (n : not ranged ≡ false) (f : Fitting) (told : f ≡ reached (x .timeout) (x .resends) (x .places) 0 16 s w) where
+  module _ (n : not ranged ≡ false) (f : Search) (told : f ≡ reached (x .timeout) (x .resends) (x .places) 0 16 s w) where
     kept-is : (b : Bool) → areSound (x .timeout) (x .resends) (x .places) 0 16 ≡ b → legal x ≡ b
     kept-is b e = sym (places-decide x ranged r b n (sym e))
 
-    pub reply-broken : (a : Replied) → f ≡ fit.Broken → a ≡ unanswered x STATE → a ≡ answered x s w
-    reply-broken a q e = e ∙ sym (answered-state x s w (kept-is false (was-broken (x .timeout) (x .resends) (x .places) 0 16 s w (sym q ∙ told))))
+    pub reply-broken : (a : Replied) → f ≡ Broken → a ≡ unanswered x STATE → a ≡ answered x s w
+    reply-broken a q e = e ∙ sym (answered-state x s w (kept-is false (is-broken (x .timeout) (x .resends) (x .places) 0 16 _ _ (sym q ∙ told))))
 
-    pub reply-stray : (a : Replied) → f ≡ fit.Stray → a ≡ unanswered x STRAY → a ≡ answered x s w
+    pub reply-stray : (a : Replied) → f ≡ Nothing → a ≡ unanswered x STRAY → a ≡ answered x s w
     reply-stray a q e =
-        let is = was-stray (x .timeout) (x .resends) (x .places) 0 16 s w (sym q ∙ told) in
+        let is = is-nothing (x .timeout) (x .resends) (x .places) 0 16 _ _ (sym q ∙ told) in
         e ∙ sym (answered-stray x s w (kept-is true (is .0)) (is .1))
 
-    module _ (k : ℕ) (q : f ≡ fit.At k) where
-      at : (areSound (x .timeout) (x .resends) (x .places) 0 16 ≡ true) × (fitting (x .places) 0 16 s w < 16) × (k ≡ fitting (x .places) 0 16 s w)
-      at = was-at (x .timeout) (x .resends) (x .places) 0 16 s w k (sym q ∙ told)
+    module _ (k y : ℕ) (q : f ≡ At k y) where
+      at : (areSound (x .timeout) (x .resends) (x .places) 0 16 ≡ true) × (fitting (x .places) 0 16 s w < 16) × (k ≡ fitting (x .places) 0 16 s w) × (y ≡ s)
+      at = is-at (x .timeout) (x .resends) (x .places) 0 16 _ _ k y (sym q ∙ told)
 
       pub reply-inside : k < 16
       reply-inside = omega (arith, at .1, at .2)

@@ -59,10 +59,6 @@ refused-same x (begin a) e = ap (λ (y : Begun). y .state) (begin-refused x a e)
 refused-same x (reply s w) e = ap (λ (y : Replied). y .state) (reply-refused x s w e)
 refused-same x tick e = ap (λ (y : Ticked). y .state) (tick-refused x e)
 
--- and after a refused call every other is answered as it would have been in its place: a beginning gives the serial that it would have given
-pub refused-then : (x : Exchanges) (c : Call) → isGood (verdictOf x c) ≡ false → (a : Asked) → begunBy (after x c) a ≡ begunBy x a
-refused-then x c e a = ap (λ (y : Exchanges). begunBy y a) (refused-same x c e)
-
 -- a beginning that is not refused
 module _ (x : Exchanges) (a : Asked) (e : isGood (begunBy x a .verdict) ≡ true) where
   pub good-verdict : isGood (begunVerdict rows x (a .out) (a .draft) (a .size)) ≡ true

@@ -14,9 +14,8 @@ use place::Place;
 use place::REQUEST;
 use place::Reply;
 use place::SEND;
-use places::Fitting;
-use places::Opening;
 use places::Report;
+use places::Search;
 use verdict::FULL;
 use verdict::SETTING;
 use verdict::STATE;
@@ -137,11 +136,11 @@ impl Exchanges {
         }
         let places = self.places;
         let to = Exchanges::PLACES;
-        let opening = places::find_opening(places, 0, to, timeout, resends, self.next);
-        match opening {
-            Opening::Broken => unfound(STATE),
-            Opening::Full => unfound(FULL),
-            Opening::At(place, serial) => Found {
+        let search = places::find_opening(places, 0, to, timeout, resends, self.next);
+        match search {
+            Search::Broken => unfound(STATE),
+            Search::Nothing => unfound(FULL),
+            Search::At(place, serial) => Found {
                 verdict: Verdict::good(),
                 place,
                 serial,
@@ -219,11 +218,11 @@ impl Exchanges {
         }
         let places = self.places;
         let to = Exchanges::PLACES;
-        let fitting = places::find_fitting(places, 0, to, timeout, resends, serial, reply);
-        match fitting {
-            Fitting::Broken => self.unanswered(STATE),
-            Fitting::Stray => self.unanswered(STRAY),
-            Fitting::At(place) => self.step(place, reply),
+        let search = places::find_fitting(places, 0, to, timeout, resends, serial, reply);
+        match search {
+            Search::Broken => self.unanswered(STATE),
+            Search::Nothing => self.unanswered(STRAY),
+            Search::At(place, _) => self.step(place, reply),
         }
     }
 

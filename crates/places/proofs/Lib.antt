@@ -3,8 +3,8 @@ pub mod Serials
 pub mod Rules
 pub mod Held
 pub mod Ends
-pub mod Openings
-pub mod Reaching
+pub mod Sought
+mod Reaching
 mod Loops
 mod Sweeping
 mod Hitting

@@ -14,8 +14,7 @@ use Rattle.octets.proofs.Searches.{first-from, first-here, first-on, first-end,
 use Rattle.place.specs.declared.Place.{Place}
 use Rattle.place.specs.Rules.{isOpen, isZero, keeps}
 use Rattle.place.proofs.Kept.{zero-free, zero-keeps, kept-open}
-use Rattle.places.specs.declared.Opening.{Opening}
-use Rattle.places.specs.declared.Opening.the-variants.{Broken, Full, At}
+use Rattle.places.specs.declared.Search.the-variants.{Broken, Nothing, At}
 use Rattle.places.specs.declared.Seen.{Seen}
 use Rattle.places.specs.Rows.{placeAt, freeAt, keepsAt, lowestFree, doubleAt, twice, allKeep, areSound, upward, serialFor, opening}
 use Rattle.places.specs.Held.{NONE, heldBy, Held, standsIn, bareAt, freeIn, serialIn, Surveyed}
@@ -23,6 +22,7 @@ use Rattle.places.proofs.Ends.{keep-behind, closed-behind}
 use Rattle.places.proofs.Held.{held-none, held-more, held-on, held-from, serial-in-row, free-in-row, double-by-row, none-behind, double-found, none-found}
 use Rattle.places.proofs.Rules.{keep-each, each-keep}
 use Rattle.places.proofs.Serials.{upward-none, upward-more}
+use Rattle.places.proofs.Sought.{when-broken, when-nothing, when-at}
 
 -- from the last place down to i: each keeps the rules for a place, none is open under a serial that is open further on, and the row has what
 -- they hold
@@ -196,8 +196,7 @@ pub ruleset baring = (bare-all, bare-here, bare-on, bare-end)
 -- what a beginning finds, by what the pass told
 module _ (t r : ℕ) (ps : List Place) (from to next : ℕ) (s : Seen) (seen : Surveyed t r ps from to s) where
   pub opening-broken : not (s .sound) ≡ true → Broken ≡ opening t r ps from to next
-  unfolding opening
-  opening-broken n = simp (sym (seen .sound) ∙ not-true (s .sound) n)
+  opening-broken n = when-broken t r ps from to _ _ (sym (seen .sound) ∙ not-true (s .sound) n)
 
   module _ (n : not (s .sound) ≡ false) (long : length ps ≡ 16) (k : ℕ) (found : k ≡ freeIn (s .row) from to) where
     sound : s .sound ≡ true
@@ -206,19 +205,18 @@ module _ (t r : ℕ) (ps : List Place) (from to next : ℕ) (s : Seen) (seen : S
     lowest : k ≡ lowestFree ps from to
     lowest = found ∙ free-in-row ps to (s .row) from long (seen .held sound) (seen .small sound)
 
-    pub opening-full : to ≤ k → Full ≡ opening t r ps from to next
-    unfolding opening
-    opening-full h = simp (sym (seen .sound) ∙ sound, le-ltb (lowestFree ps from to) to (omega (arith, lowest, h)))
+    pub opening-full : to ≤ k → Nothing ≡ opening t r ps from to next
+    opening-full h = when-nothing t r ps from to _ _ (sym (seen .sound) ∙ sound) (omega (arith, lowest, h))
 
     pub opening-inside : k < to → from ≤ to
     unfolding lowestFree
     opening-inside h = omega (arith, lowest, first-from (freeAt ps) from (to - from), h)
 
     pub opening-at : (x : ℕ) → k < to → x ≡ serialIn (s .row) (to - from) next → At k x ≡ opening t r ps from to next
-    unfolding opening serialIn
+    unfolding serialIn
     opening-at x h e =
         let is = e ∙ serial-in-row ps to (s .row) from next long (seen .held sound) in
-        (λ i. At (lowest i) (is i)) ∙ simp (sym (seen .sound) ∙ sound, lt-ltb (lowestFree ps from to) to (omega (arith, lowest, h)))
+        (λ i. At (lowest i) (is i)) ∙ when-at t r ps from to _ _ (sym (seen .sound) ∙ sound) (omega (arith, lowest, h))
 
 pub ruleset opened = (opening-broken, opening-full, opening-inside, opening-at)
 

@@ -1,26 +1,26 @@
 -- The place that a reply fits, in places that keep the rules: the one at which its serial stands in the row, where that awaits it. Assumes nothing.
 use Prim.Native.Nat.{ℕ, _+_, _-_, _≤_, _<_}
 use native.Mathlib.Omega.{arith}
-use mathlib.Core.Bool.{Bool, true, false, not, _&&_, cond, false≢true, and-eq-true-iff}
+use mathlib.Core.Bool.{Bool, true, false, not, _&&_, false≢true, and-eq-true-iff}
 use mathlib.Core.List.{List}
 use mathlib.Core.Path.{_≡_, refl, sym, ap, _∙_}
-use borrow.Author.Tests.{not-true, not-false, eq-eqb, ne-eqb, eqb-true, ltb-true, ltb-false, lt-ltb, le-ltb}
-use lib.Dec.{eqb, ltb}
+use borrow.Author.Tests.{not-true, not-false, eq-eqb, ne-eqb, ltb-true, ltb-false}
+use lib.Dec.{ltb}
 use lib.ListN.{length, getD}
-use Rattle.octets.specs.Searches.{firstFit, anyFits}
-use Rattle.octets.proofs.Flags.{by-test, on, off}
+use Rattle.octets.specs.Searches.{firstFit}
+use Rattle.octets.proofs.Flags.{by-test}
 use Rattle.octets.proofs.Searches.{first-here, first-on, first-end, first-fits, first-none, first-absent, first-is}
 use Rattle.place.specs.declared.Place.{Place}
 use Rattle.place.specs.declared.Reply.{Reply}
 use Rattle.place.specs.Steps.{awaits, fits}
 use Rattle.place.proofs.Kept.{holds-is, fits-holds}
-use Rattle.places.specs.declared.Fitting.{Fitting}
-use Rattle.places.specs.declared.Fitting.the-variants.{Broken, Stray, At}
+use Rattle.places.specs.declared.Search.the-variants.{Broken, Nothing, At}
 use Rattle.places.specs.declared.Seen.{Seen}
 use Rattle.places.specs.Rows.{placeAt, holdsAt, fitsAt, twice, allKeep, areSound, fitting, reached}
 use Rattle.places.specs.Held.{Held, standsAt, Surveyed}
 use Rattle.places.proofs.Held.{stands-open, open-stands}
 use Rattle.places.proofs.Rules.{Apart, once-apart}
+use Rattle.places.proofs.Sought.{when-broken, when-nothing, when-at}
 
 -- the loop that looks for a serial in the row: what is left decides as all does
 unfoldable pub Sought : List ℕ → ℕ → ℕ → Type 0
@@ -49,8 +49,7 @@ pub ruleset seeking = (all-sought, sought-here, sought-on, sought-end)
 -- s is the reply's serial, k the first place of the row at which it stands
 module _ (t r : ℕ) (ps : List Place) (from to : ℕ) (q : Seen) (seen : Surveyed t r ps from to q) (s : ℕ) (w : Reply) where
   pub reached-broken : not (q .sound) ≡ true → Broken ≡ reached t r ps from to s w
-  unfolding reached
-  reached-broken n = simp (sym (seen .sound) ∙ not-true (q .sound) n)
+  reached-broken n = when-broken t r ps from to _ _ (sym (seen .sound) ∙ not-true (q .sound) n)
 
   module _ (n : not (q .sound) ≡ false) (long : length ps ≡ 16) (small : s < 65536) (k : ℕ) (first : k ≡ firstFit (standsAt (q .row) s) 0 16) where
     kept : areSound t r ps from to ≡ true
@@ -64,11 +63,11 @@ module _ (t r : ℕ) (ps : List Place) (from to : ℕ) (q : Seen) (seen : Survey
     apart = once-apart ps from to (not-true (twice ps from to) (and-eq-true-iff (allKeep t r ps from to) (not (twice ps from to)) .0 kept .1))
 
     -- where it fits no place of the run
-    stray : ((j : ℕ) → from ≤ j → j < from + (to - from) → fitsAt ps s w j ≡ false) → Stray ≡ reached t r ps from to s w
-    unfolding reached fitting
+    stray : ((j : ℕ) → from ≤ j → j < from + (to - from) → fitsAt ps s w j ≡ false) → Nothing ≡ reached t r ps from to s w
+    unfolding fitting
     stray none =
         let end : fitting ps from to s w ≡ from + (to - from) = first-absent (fitsAt ps s w) from (to - from) none in
-        simp (kept, le-ltb (fitting ps from to s w) to (omega (arith, end)))
+        when-nothing t r ps from to _ _ kept (omega (arith, end))
 
     -- a place that it fits holds its serial, which then stands in the row
     fit-stands : (j : ℕ) → from ≤ j → j < from + (to - from) → fitsAt ps s w j ≡ true → (j < 16) × (standsAt (q .row) s j ≡ true)
@@ -76,7 +75,7 @@ module _ (t r : ℕ) (ps : List Place) (from to : ℕ) (q : Seen) (seen : Survey
         let o = open-stands ps to (q .row) from s small long held j l h (fits-holds s w (placeAt ps j) f) in
         (omega (arith, o .1), o .2)
 
-    pub reached-none : 16 ≤ k → Stray ≡ reached t r ps from to s w
+    pub reached-none : 16 ≤ k → Nothing ≡ reached t r ps from to s w
     reached-none past =
         stray
         (λ j l h.
@@ -103,7 +102,7 @@ module _ (t r : ℕ) (ps : List Place) (from to : ℕ) (q : Seen) (seen : Survey
           same true = refl
           same false = refl
 
-      pub reached-other : not a ≡ true → Stray ≡ reached t r ps from to s w
+      pub reached-other : not a ≡ true → Nothing ≡ reached t r ps from to s w
       reached-other m =
           stray
           (λ j l h.
@@ -120,8 +119,8 @@ module _ (t r : ℕ) (ps : List Place) (from to : ℕ) (q : Seen) (seen : Survey
               let same : j ≡ k = omega (arith, ltb-false j k b, ltb-false k j d) in
               false≢true (sym (fits-here ∙ not-true a m) ∙ ap (fitsAt ps s w) (sym same) ∙ f)
 
-      pub reached-at : not a ≡ false → At k ≡ reached t r ps from to s w
-      unfolding reached fitting
+      pub reached-at : not a ≡ false → At k s ≡ reached t r ps from to s w
+      unfolding fitting
       reached-at m =
           let is : fitting ps from to s w ≡ k =
           first-is (fitsAt ps s w) from (to - from) k (there .0) (there .1) (fits-here ∙ not-false a m)
@@ -132,50 +131,6 @@ module _ (t r : ℕ) (ps : List Place) (from to : ℕ) (q : Seen) (seen : Survey
           let none = first-none (standsAt (q .row) s) 0 16 j (omega arith) (omega (arith, first, u)) in
           absurd (false≢true (sym none ∙ o .1)))
           (λ f. f)) in
-          ap At (sym is) ∙ simp (kept, lt-ltb (fitting ps from to s w) to (omega (arith, is, there .0, there .1)))
+          ap (λ (j : ℕ). At j s) (sym is) ∙ when-at t r ps from to _ _ kept (omega (arith, is, there .0, there .1))
 
 pub ruleset reaching = (reached-broken, reached-none, reached-other, reached-at)
-
--- what a reply found tells of the places
-module _ (t r : ℕ) (ps : List Place) (from to s : ℕ) (w : Reply) where
-  abbrev by : Bool → Bool → Fitting
-  by a b = cond a (cond b (At (fitting ps from to s w)) Stray) Broken
-
-  pub was-broken : Broken ≡ reached t r ps from to s w → areSound t r ps from to ≡ false
-  unfolding reached
-  was-broken e = by-tests (areSound t r ps from to) (ltb (fitting ps from to s w) to) e
-    where
-      by-tests : (a b : Bool) → Broken ≡ by a b → a ≡ false
-      by-tests false b e = refl
-      by-tests true true e = cc
-      by-tests true false e = cc
-
-  pub was-stray : Stray ≡ reached t r ps from to s w → (areSound t r ps from to ≡ true) × (to ≤ fitting ps from to s w)
-  unfolding reached
-  was-stray e = by-tests (areSound t r ps from to) (ltb (fitting ps from to s w) to) refl e
-    where
-      by-tests : (a b : Bool) → ltb (fitting ps from to s w) to ≡ b → Stray ≡ by a b → (a ≡ true) × (to ≤ fitting ps from to s w)
-      by-tests true false q e = (refl, ltb-false (fitting ps from to s w) to q)
-      by-tests true true q e = absurd (other e)
-        where
-          other : Stray ≡ At (fitting ps from to s w) → ⊥
-          other e = let z : _≡_ {A = ℕ} 0 1 = cc in omega arith
-      by-tests false b q e = absurd (other e)
-        where
-          other : Stray ≡ Broken → ⊥
-          other e = let z : _≡_ {A = ℕ} 0 1 = cc in omega arith
-
-  pub was-at : (k : ℕ) → At k ≡ reached t r ps from to s w → (areSound t r ps from to ≡ true) × (fitting ps from to s w < to) × (k ≡ fitting ps from to s w)
-  unfolding reached
-  was-at k e = by-tests (areSound t r ps from to) (ltb (fitting ps from to s w) to) refl e
-    where
-      by-tests : (a b : Bool) → ltb (fitting ps from to s w) to ≡ b → At k ≡ by a b → (a ≡ true) × (fitting ps from to s w < to) × (k ≡ fitting ps from to s w)
-      by-tests true true q e = (refl, ltb-true (fitting ps from to s w) to q, cc)
-      by-tests true false q e = absurd (other e)
-        where
-          other : At k ≡ Stray → ⊥
-          other e = let z : _≡_ {A = ℕ} 0 1 = cc in omega arith
-      by-tests false b q e = absurd (other e)
-        where
-          other : At k ≡ Broken → ⊥
-          other e = let z : _≡_ {A = ℕ} 0 1 = cc in omega arith

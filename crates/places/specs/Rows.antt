@@ -10,11 +10,9 @@ use Rattle.place.specs.declared.Place.{Place}
 use Rattle.place.specs.declared.Reply.{Reply}
 use Rattle.place.specs.Rules.{free, isOpen, holds, keeps}
 use Rattle.place.specs.Steps.{NOTHING, ticked, fits}
-use Rattle.places.specs.declared.Fitting.{Fitting}
-use Rattle.places.specs.declared.Fitting.the-variants as fit
-use Rattle.places.specs.declared.Opening.{Opening}
-use Rattle.places.specs.declared.Opening.the-variants.{Broken, Full, At}
 use Rattle.places.specs.declared.Report.{Report}
+use Rattle.places.specs.declared.Search.{Search}
+use Rattle.places.specs.declared.Search.the-variants.{Broken, Nothing, At}
 use Rattle.places.specs.declared.Swept.{Swept}
 
 -- the place at a number
@@ -70,19 +68,21 @@ unopened ps from to next j = not (isOpenAs ps from to (upward next j))
 unfoldable pub serialFor : List Place → ℕ → ℕ → ℕ → ℕ
 serialFor ps from to next = upward next (firstFit (unopened ps from to next) 0 (to - from))
 
--- "takes the lowest free place and the first serial, from the next one upward .., that is not open": what a beginning finds
-unfoldable pub opening : ℕ → ℕ → List Place → ℕ → ℕ → ℕ → Opening
-opening t r ps from to next =
-    cond (areSound t r ps from to) (cond (ltb (lowestFree ps from to) to) (At (lowestFree ps from to) (serialFor ps from to next)) Full) Broken
-
 -- the place that a reply fits; the end of the row where it fits none
 unfoldable pub fitting : List Place → ℕ → ℕ → ℕ → Reply → ℕ
 fitting ps from to s w = firstFit (fitsAt ps s w) from (to - from)
 
--- "STATE, then .. STRAY": what a reply finds
-unfoldable pub reached : ℕ → ℕ → List Place → ℕ → ℕ → ℕ → Reply → Fitting
-reached t r ps from to s w =
-    cond (areSound t r ps from to) (cond (ltb (fitting ps from to s w) to) (fit.At (fitting ps from to s w)) fit.Stray) fit.Broken
+-- "STATE, then FULL or STRAY": what is found among the places, where a search came to place k, and x is the serial beside it
+unfoldable pub sought : ℕ → ℕ → List Place → ℕ → ℕ → ℕ → ℕ → Search
+sought t r ps from to k x = cond (areSound t r ps from to) (cond (ltb k to) (At k x) Nothing) Broken
+
+-- "takes the lowest free place and the first serial, from the next one upward .., that is not open": what a beginning finds
+abbrev pub opening : ℕ → ℕ → List Place → ℕ → ℕ → ℕ → Search
+opening t r ps from to next = sought t r ps from to (lowestFree ps from to) (serialFor ps from to next)
+
+-- and what a reply finds
+abbrev pub reached : ℕ → ℕ → List Place → ℕ → ℕ → ℕ → Reply → Search
+reached t r ps from to s w = sought t r ps from to (fitting ps from to s w) s
 
 -- what a tick makes of a place
 abbrev pub aged : ℕ → ℕ → Place → Place

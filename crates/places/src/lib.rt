@@ -18,18 +18,11 @@ pub struct Report {
     pub serial: u16,
 }
 
-// What a beginning finds: that the rules are broken, that no place is free, or a place and a serial.
-pub enum Opening {
+// What is found among the places: that they break the rules, nothing, or a place and a serial.
+pub enum Search {
     Broken,
-    Full,
+    Nothing,
     At(usize, u16),
-}
-
-// What a reply finds: that the rules are broken, that it fits no place, or the place that it fits.
-pub enum Fitting {
-    Broken,
-    Stray,
-    At(usize),
 }
 
 // What one pass tells: whether the places keep the rules, and where they do the serials that are open, each at its place.
@@ -175,19 +168,19 @@ pub fn find_opening(
     timeout: u8,
     resends: u8,
     next: u16,
-) -> Opening
+) -> Search
     ensures { λ r. ⌜ r ≡ opening timeout resends places from to next ⌝ }
 {
     let seen = survey(places, from, to, timeout, resends);
     if !seen.sound {
-        return Opening::Broken;
+        return Search::Broken;
     }
     let row = seen.row;
     let place = free_in(&row, from, to);
     if to <= place {
-        return Opening::Full;
+        return Search::Nothing;
     }
-    Opening::At(place, serial_in(&row, to - from, next))
+    Search::At(place, serial_in(&row, to - from, next))
 }
 
 // The place that a reply fits, in places that keep the rules, where no serial is open twice.
@@ -199,23 +192,23 @@ pub fn find_fitting(
     resends: u8,
     serial: u16,
     reply: Reply,
-) -> Fitting
+) -> Search
     ensures { λ r. ⌜ r ≡ reached timeout resends places from to serial reply ⌝ }
 {
     let seen = survey(places, from, to, timeout, resends);
     if !seen.sound {
-        return Fitting::Broken;
+        return Search::Broken;
     }
     let row = seen.row;
     let at = place_in(&row, serial);
     if 16 <= at {
-        return Fitting::Stray;
+        return Search::Nothing;
     }
     let p = places[at];
     if !place::awaits(p.mode, reply) {
-        return Fitting::Stray;
+        return Search::Nothing;
     }
-    Fitting::At(at)
+    Search::At(at, serial)
 }
 
 // A tick of every place.

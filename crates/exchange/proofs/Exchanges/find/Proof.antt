@@ -19,6 +19,6 @@ find-spec =
     unasked
     (λ c. search needs)
     unasked
-    (λ c. search finding)  -- Opening::Broken
-    (λ c. search finding)  -- Opening::Full
+    (λ c. search finding)  -- Search::Broken
+    (λ c. search finding)  -- Search::Nothing
     (λ c. search finding))

@@ -19,6 +19,6 @@ reply-spec =
     unasked
     (λ c. search needs)
     (λ c κs. search replying)
-    (λ c. search replying)  -- Fitting::Broken
-    (λ c. search replying)  -- Fitting::Stray
+    (λ c. search replying)  -- Search::Broken
+    (λ c. search replying)  -- Search::Nothing
     (λ c. search replying))
