@@ -22,6 +22,7 @@ use Rattle.exchange.specs.Table.{inRange, legal, blank, made, found, placed, en
 use Rattle.exchange.proofs.Draft.{the-row}
 use Rattle.exchange.proofs.Answers.{made-refused, made-good}
 use Rattle.exchange.proofs.Before.{others-refused, same-verdict, same-output, same-written, same-unfound, refused-differs}
+use Rattle.exchange.proofs.Begins.{orderTests, in-one-order, begun-verdict}
 use Rattle.exchange.proofs.Changes.{refused-same, taken-so, begun-found, given-unopened, given-first, given-next, begun-inside, taken-free, taken-lowest, begin-others}
 use Rattle.exchange.proofs.Changes.{reply-rest, tick-rest, tick-tells, settings-made}
 use Rattle.exchange.proofs.Denials.{resent-when, failed-when, resent-place, failed-place, tick-silent}
@@ -45,7 +46,8 @@ use Rattle.places.specs.Rows.{placeAt, isOpenAs, upward, unopened, nothing}
 use Rattle.taking.specs.Takes.{roleOf, untold, taken}
 use Rattle.taking.proofs.Promises.{lateRefused, isReply, taken-confirm, taken-answer, taken-deny, taken-bad-answer, taken-other, taken-refused, callsAs, taken-run}
 use Rattle.verdict.specs.declared.Verdict.{Verdict}
-use Rattle.verdict.specs.Orders.{good, refusal, isGood}
+use Rattle.unit.specs.Units.{judgedUnder}
+use Rattle.verdict.specs.Orders.{good, refusal, isGood, inOrder}
 use Rattle.verdict.specs.Refusals.{STATE, SETTING, FULL, STRAY}
 
 -- "Timeout T is 1 to 10 ticks, resends R 0 to 9.", "A fresh table starts at serial 0": it is made with any such T and R, and with no others
@@ -78,6 +80,11 @@ serial-not-used-up x c e a g = begun-found (after x c) a g ∙ ap (λ (y : Excha
 -- SERIAL NUMBERS: it "takes the lowest free place and the first serial, from the next one upward and past 65,535 to 0, that is not open; the one
 -- after it is then next." Document 02, Q-8: "it writes the packet with the serial it would give, and only then opens the place."
 module _ (x : Exchanges) (sound : Sound x) (a : Asked) where
+  -- "Refusals: STATE, FULL, then the packet writer's; COMMAND also for 3, 5, 6", in one order
+  pub begin-in-order : begunBy x a .verdict
+      ≡ inOrder (orderTests x (a .out) (a .draft) (a .size)) (judgedUnder rows (a .draft .command) (part (a .out) 27 (27 + a .size)))
+  begin-in-order = begun-verdict rows x (a .out) (a .draft) (a .size) ∙ in-one-order rows x (a .out) (a .draft) (a .size)
+
   -- where a place is free the packet writer decides, with COMMAND for all but 1, 2 and 4; it is refused where "16 exchanges open"
   pub begin-where-free : (k : ℕ) → k < 16 → isOpen (placeAt (x .places) k .mode) ≡ false
       → begunBy x a .verdict ≡ draftVerdict rows x (a .out) (a .draft) (a .size)

@@ -4,18 +4,16 @@ use mathlib.Core.Bool.{Bool, true, false, false≢true}
 use mathlib.Core.Path.{_≡_, refl, sym, ap, subst⁻¹, _∙_}
 use borrow.Author.Tests.{lt-ltb, le-ltb, ltb-true, ltb-false}
 use lib.Dec.{ltb}
-use lib.ListN.{set, replicate}
+use lib.ListN.{replicate}
 use Rattle.verdict.specs.Refusals.{STATE, SETTING, FULL, STRAY}
 use Rattle.verdict.specs.Orders.{good, refusal, isGood, inOrder}
 use Rattle.place.specs.declared.Reply.{Reply}
-use Rattle.place.specs.declared.Step.{Step}
-use Rattle.place.specs.Steps.{NOTHING, replied}
+use Rattle.place.specs.Steps.{NOTHING}
 use Rattle.exchange.specs.declared.Exchanges.{Exchanges}
 use Rattle.exchange.specs.declared.Found.{Found}
-use Rattle.exchange.specs.declared.Replied.{Replied}
 use Rattle.exchange.specs.declared.Ticked.{Ticked}
 use Rattle.places.specs.declared.Swept.{Swept}
-use Rattle.places.specs.Rows.{placeAt, lowestFree, serialFor, fitting, nothing, swept}
+use Rattle.places.specs.Rows.{lowestFree, serialFor, fitting, nothing, swept}
 use Rattle.exchange.specs.Table.{inRange, legal, blank, made, found, placed, stepped, answered, ticking}
 
 -- making a table

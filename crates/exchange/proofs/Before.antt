@@ -1,7 +1,7 @@
 -- What differs from release 1.0, where beginning and writing were two calls: nothing where a place is found and the packet is written, and nothing
 -- where no place is found; where one is found and the packet is refused, the table, which now comes back as it came. Assumes nothing.
 use Prim.Native.Nat.{ℕ}
-use mathlib.Core.Bool.{Bool, true, false, true≢false}
+use mathlib.Core.Bool.{true, false, true≢false}
 use mathlib.Core.List.{List}
 use mathlib.Core.Path.{_≡_, sym, ap, _∙_}
 use Rattle.octets.proofs.Flags.{by-test}

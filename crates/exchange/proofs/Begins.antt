@@ -1,26 +1,32 @@
 -- Beginning and writing as one: what its verdict tells, its answer and its output by that verdict, and that the packet writer says of the header
 -- it is handed what the order says. Assumes nothing.
 use Prim.Native.Nat.{ℕ, _+_, _≤_}
-use mathlib.Core.Bool.{Bool, true, false, cond}
+use mathlib.Core.Bool.{Bool, true, false, _||_, cond, false≢true}
 use mathlib.Core.List.{List, [], _∷_}
 use mathlib.Core.Path.{_≡_, refl, sym, ap, _∙_}
-use borrow.Author.Tests.{eq-eqb, ne-eqb}
+use borrow.Author.Tests.{eq-eqb, ne-eqb, eqb-true}
+use lib.Dec.{eqb, leb, ltb}
+use lib.ListN.{length}
 use Rattle.octets.proofs.Flags.{by-test}
 use Rattle.kinds.specs.declared.Row.{Row}
-use Rattle.output.specs.Writing.{roomTests, fieldTests, packetVerdict, writtenPacket}
+use Rattle.label.specs.Times.{judged, allowed}
+use Rattle.octets.specs.Parts.{part}
+use Rattle.output.specs.Writing.{roomTests, packetVerdict, writtenPacket}
 use Rattle.output.proofs.Judging.{packet-roomy}
 use Rattle.packet.specs.declared.Header.{Header}
 use Rattle.place.specs.Rules.{FREE, SEND, REQUEST, isOpen}
+use Rattle.places.specs.Rows.{lowestFree}
+use Rattle.unit.specs.Units.{isCommand, judgedUnder}
 use Rattle.verdict.specs.declared.Verdict.{Verdict}
 use Rattle.verdict.specs.Orders.{Test, _or-else_, good, refusal, isGood, inOrder}
-use Rattle.verdict.specs.Refusals.{COMMAND}
+use Rattle.verdict.specs.Refusals.{STATE, ROOM, LENGTH, COMMAND, TIME, FULL}
 use Rattle.verdict.proofs.Order.{passed, failed, joined, good-held, held-good, stays, goes-on}
 use Rattle.exchange.specs.declared.Begun.{Begun}
 use Rattle.exchange.specs.declared.Draft.{Draft}
 use Rattle.exchange.specs.declared.Exchanges.{Exchanges}
 use Rattle.exchange.specs.declared.Found.{Found}
 use Rattle.exchange.specs.Begins.{headedBy, headed, modeOf, openingTests, draftVerdict, begunVerdict, unbegun, begun, begunOutput}
-use Rattle.exchange.specs.Table.{beginTests, found, entered}
+use Rattle.exchange.specs.Table.{legal, beginTests, found, entered}
 
 -- the mode that a command opens
 module _ (c : ℕ) where
@@ -71,6 +77,51 @@ module _ (rs : List Row) (out : List ℕ) (d : Draft) (l s : ℕ) where
       by-test (isOpen (modeOf (d .command)))
       (λ o. ap (λ (k : ℕ). rest (headedBy d s k)) (e ∙ simp o) ∙ sym (opens-so o))
       (λ o. ap (λ (k : ℕ). rest (headedBy d s k)) (e ∙ simp o) ∙ sym (refused-so o))
+
+-- a command that opens an exchange is one of the six
+opens-command : (c : ℕ) → isOpen (modeOf c) ≡ true → isCommand c ≡ true
+unfolding modeOf isOpen
+opens-command c = by-tests (eqb c 1) refl (eqb c 2) refl (eqb c 4) refl
+  where
+    by-tests : (a : Bool) → eqb c 1 ≡ a → (b : Bool) → eqb c 2 ≡ b → (d : Bool) → eqb c 4 ≡ d → isOpen (cond (a || b) SEND (cond d REQUEST FREE)) ≡ true
+        → isCommand c ≡ true
+    by-tests true e b f d g o = ap isCommand (eqb-true c 1 e)
+    by-tests false e true f d g o = ap isCommand (eqb-true c 2 f)
+    by-tests false e false f true g o = ap isCommand (eqb-true c 4 g)
+    by-tests false e false f false g o = absurd (false≢true o)
+
+-- the whole order as one table, then the unit under its command: "STATE, FULL, then the packet writer's; COMMAND also for 3, 5, 6"
+abbrev pub orderTests : Exchanges → List ℕ → Draft → ℕ → List Test
+orderTests x out d l =
+    (legal x or-else STATE)
+    ∷ (ltb (lowestFree (x .places) 0 16) 16 or-else FULL)
+    ∷ (leb l 1024 or-else LENGTH)
+    ∷ (leb (30 + l) (length out) or-else ROOM)
+    ∷ (isOpen (modeOf (d .command)) or-else COMMAND)
+    ∷ (allowed (judged (d .label)) or-else TIME)
+    ∷ []
+
+pub in-one-order : (rs : List Row) (x : Exchanges) (out : List ℕ) (d : Draft) (l : ℕ)
+    → begunVerdict rs x out d l ≡ inOrder (orderTests x out d l) (judgedUnder rs (d .command) (part out 27 (27 + l)))
+unfolding begunVerdict packetVerdict inOrder
+in-one-order rs x out d l =
+    ap
+    (λ (v : Verdict). cond (legal x) (cond (ltb (lowestFree (x .places) 0 16) 16) v (refusal FULL 0)) (refusal STATE 0))
+    (by-tests (leb l 1024) (leb (30 + l) (length out)) (isOpen (modeOf (d .command))) refl (isCommand (d .command)) refl)
+  where
+    timed : Verdict
+    timed = inOrder ((allowed (judged (d .label)) or-else TIME) ∷ []) (judgedUnder rs (d .command) (part out 27 (27 + l)))
+
+    roomed : Bool → Bool → Verdict → Verdict
+    roomed a b v = cond a (cond b v (refusal ROOM 0)) (refusal LENGTH 0)
+
+    by-tests : (a b o : Bool) → isOpen (modeOf (d .command)) ≡ o → (c : Bool) → isCommand (d .command) ≡ c
+        → roomed a b (cond o (roomed a b (cond c timed (refusal COMMAND 0))) (refusal COMMAND 0)) ≡ roomed a b (cond o timed (refusal COMMAND 0))
+    by-tests false b o p c q = refl
+    by-tests true false o p c q = refl
+    by-tests true true false p c q = refl
+    by-tests true true true p true q = refl
+    by-tests true true true p false q = absurd (false≢true (sym q ∙ opens-command (d .command) p))
 
 module _ (rs : List Row) (x : Exchanges) (out : List ℕ) (d : Draft) (l : ℕ) where
   -- the order by its two halves

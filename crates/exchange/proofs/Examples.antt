@@ -3,7 +3,7 @@ use Prim.Native.Nat.{ℕ}
 use mathlib.Core.List.{List, [], _∷_, _++_, map}
 use mathlib.Core.Path.{_≡_, refl}
 use lib.ListN.{length, getD, take, replicate}
-use Rattle.kinds.specs.Table.{table as types, rowsOf, rows, findRow}
+use Rattle.kinds.specs.Table.{table as types, rowsOf, findRow}
 use Rattle.frame.specs.Frame.{unitLength}
 use Rattle.label.specs.Times.{judged, inRanges}
 use Rattle.octets.specs.Numbers.{lowFirst}

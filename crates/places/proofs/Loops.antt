@@ -7,7 +7,7 @@ use mathlib.Core.Path.{_≡_, refl, sym, ap, subst, subst⁻¹, _∙_}
 use lib.Arith.{lt-of-le-ne}
 use lib.Dec.{eqb, ltb}
 use lib.ListN.{length, getD, set, replicate, length-set}
-use borrow.Author.Tests.{not-true, not-false, lt-ltb, le-ltb, ltb-true, ltb-false, le-leb, lt-leb, eq-eqb, ne-eqb, eqb-true, eqb-false}
+use borrow.Author.Tests.{not-true, not-false, ltb-true, ltb-false, le-leb, lt-leb, eq-eqb, ne-eqb, eqb-true, eqb-false}
 use Rattle.octets.specs.Searches.{firstFit, anyFits}
 use Rattle.octets.proofs.Flags.{by-test, on, off}
 use Rattle.octets.proofs.Searches.{first-from, first-here, first-on, first-end, any-on}
@@ -16,7 +16,7 @@ use Rattle.place.specs.Rules.{isOpen, isZero, keeps}
 use Rattle.place.proofs.Kept.{zero-free, zero-keeps, kept-open}
 use Rattle.places.specs.declared.Search.the-variants.{Broken, Nothing, At}
 use Rattle.places.specs.declared.Seen.{Seen}
-use Rattle.places.specs.Rows.{placeAt, freeAt, keepsAt, lowestFree, doubleAt, twice, allKeep, areSound, upward, serialFor, opening}
+use Rattle.places.specs.Rows.{placeAt, freeAt, keepsAt, lowestFree, doubleAt, twice, allKeep, areSound, upward, opening}
 use Rattle.places.specs.Held.{NONE, heldBy, Held, standsIn, bareAt, freeIn, serialIn, Surveyed}
 use Rattle.places.proofs.Ends.{keep-behind, closed-behind}
 use Rattle.places.proofs.Held.{held-none, held-more, held-on, held-from, serial-in-row, free-in-row, double-by-row, none-behind, double-found, none-found}
