@@ -5,13 +5,15 @@ use Prim.Native.Nat.{ℕ, _+_, _≤_, _<_}
 use mathlib.Core.Bool.{true, false, _&&_}
 use mathlib.Core.List.{List, []}
 use mathlib.Core.Logic.{_↔_}
-use mathlib.Core.Path.{_≡_, refl, ap, subst⁻¹, _∙_}
+use mathlib.Core.Path.{_≡_, refl, sym, ap, subst⁻¹, _∙_}
 use denote.Laws.{Is}
+use denote.Ref.{RefT, now}
 use mir.Val.{Val}
 use borrow.Author.Tests.{le-leb}
 use lib.Dec.{eqb}
 use lib.ListN.{getD, take, drop}
 use Rattle.octets.specs.Searches.{firstFit}
+use Rattle.exchange.specs.declared.Begun.{Begun}
 use Rattle.exchange.specs.declared.Draft.{Draft}
 use Rattle.exchange.specs.declared.Exchanges.{Exchanges}
 use Rattle.exchange.specs.Before.{Left, inTwo}
@@ -46,6 +48,7 @@ use Rattle.places.specs.Rows.{placeAt, isOpenAs, upward, unopened, nothing}
 use Rattle.taking.specs.Takes.{roleOf, untold, taken}
 use Rattle.taking.proofs.Promises.{lateRefused, isReply, taken-confirm, taken-answer, taken-deny, taken-bad-answer, taken-other, taken-refused, callsAs, taken-run}
 use Rattle.verdict.specs.declared.Verdict.{Verdict}
+use Rattle.trawnosz.proofs.trawnosz_begin_and_write.Reads as begin-and-write
 use Rattle.unit.specs.Units.{judgedUnder}
 use Rattle.verdict.specs.Orders.{good, refusal, isGood, inOrder}
 use Rattle.verdict.specs.Refusals.{STATE, SETTING, FULL, STRAY}
@@ -123,16 +126,31 @@ module _ (x : Exchanges) (sound : Sound x) (a : Asked) where
     pub begin-leaves-others : (k : ℕ) → (k ≡ begunBy x a .place → ⊥) → placeAt (begunBy x a .state .places) k ≡ placeAt (x .places) k
     begin-leaves-others = begin-others x a taken
 
-    -- what is written is judged good and reads back with that serial, the command and the fields, around the unit that stood there; the rest stays
-    pub begun-read-back : Addressed (a .draft)
-        → let out : List ℕ = begunOutput rows x (a .out) (a .draft) (a .size) in
-        let p : List ℕ = take (begunBy x a .length) out in
-        (isGood (judgedPacket rows p) ≡ true)
-        × (openedPacket rows p .header ≡ headed (a .draft) (begunBy x a .serial))
-        × (openedPacket rows p .length ≡ a .size)
-        × (unitOf p ≡ part (a .out) 27 (27 + a .size))
-        × (drop (begunBy x a .length) out ≡ drop (begunBy x a .length) (a .out))
-    begun-read-back six = (begun-judged x a six taken, begun-header x a six taken, begun-size x a six taken, begun-unit x a six taken, begun-beyond x a six taken)
+-- what a beginning that is good left: r is its answer, q the output, of which the front is a packet that is judged good and reads back with the serial that is
+-- entered, the command and the fields, around the unit that stood there, and the rest is as it was
+pub record SentBack (a : Asked) (r : Begun) (q : List ℕ) : Type 0 where
+  pub good : isGood (judgedPacket rows (take (r .length) q)) ≡ true
+  pub header : openedPacket rows (take (r .length) q) .header ≡ headed (a .draft) (r .serial)
+  pub size : openedPacket rows (take (r .length) q) .length ≡ a .size
+  pub unit : unitOf (take (r .length) q) ≡ part (a .out) 27 (27 + a .size)
+  pub rest : drop (r .length) q ≡ drop (r .length) (a .out)
+
+-- of the call that C links, whatever meets its contract
+pub begun-read-back : (κs : _) (x : Exchanges) (out o : RefT (List ℕ)) (d : Draft) (l : ℕ) (r : Begun)
+    → begin-and-write.Post κs (x, (out, (d, (l, tt)))) r (x, (o, (d, (l, tt)))) → Addressed d → isGood (r .verdict) ≡ true
+    → SentBack (record { out = now out; draft = d; size = l }) r (now o)
+begun-read-back κs x out o d l r p six g =
+    let a : Asked = record { out = now out; draft = d; size = l } in
+    let taken : isGood (begunBy x a .verdict) ≡ true = ap (λ (b : Begun). isGood (b .verdict)) (sym (p .0)) ∙ g in
+    subst⁻¹ (λ (b : Begun). SentBack a b (now o)) (p .0)
+    (subst⁻¹ (SentBack a (begunBy x a)) (p .1)
+    (record {
+      good = begun-judged x a six taken;
+      header = begun-header x a six taken;
+      size = begun-size x a six taken;
+      unit = begun-unit x a six taken;
+      rest = begun-beyond x a six taken;
+    }))
 
 -- `Addressed` asks for addresses of six bytes: every draft that a caller can hand over is so
 pub draft-handed : (d : Draft) (vs : List Val) → Is the-row d vs → Addressed d
