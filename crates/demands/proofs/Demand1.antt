@@ -17,7 +17,7 @@ use Rattle.exchange.specs.declared.Draft.{Draft}
 use Rattle.exchange.specs.declared.Made.{Made}
 use Rattle.exchange.specs.declared.Replied.{Replied}
 use Rattle.exchange.specs.declared.Ticked.{Ticked}
-use Rattle.exchange.specs.Table.{blank, made}
+use Rattle.exchange.specs.Table.{blank, made, untold}
 use Rattle.exchange.specs.Table as exchanges
 use Rattle.exchange.proofs.Changes.{refused-same, begin-refused, begin-unwritten, reply-refused, tick-refused}
 use Rattle.fields.specs.declared.Fields.{Fields}
@@ -36,7 +36,6 @@ use Rattle.output.proofs.Judging.{kept, roomy}
 use Rattle.packet.specs.declared.Header.{Header}
 use Rattle.place.specs.declared.Reply.{Reply}
 use Rattle.place.specs.declared.Reply.the-variants.{Confirm, Answer, Deny, BadAnswer}
-use Rattle.place.specs.Steps.{NOTHING}
 use Rattle.places.specs.Rows.{nothing}
 use Rattle.reading.specs.declared.Event.the-variants.{Refused}
 use Rattle.reading.specs.Values.{told}
@@ -228,34 +227,31 @@ refused-begin-and-write κs x out o d l r p e =
     (p .0 ∙ begin-refused x a no ∙ ap (λ (b : Begun). unbegun x (b .verdict)) (sym (p .0)), p .1 ∙ begin-unwritten x a no)
 
 -- trawnosz_reply_confirm, trawnosz_reply_answer, trawnosz_reply_deny and trawnosz_reply_bad_answer
-abbrev pub noReply : Exchanges → Verdict → Replied
-noReply x v = record { verdict = v; place = 0; outcome = NOTHING; state = x }
-
 not-replied : (x : Exchanges) (s : ℕ) (w : Reply) (r : Replied) → r ≡ exchanges.answered x s w
-    → isGood (r .verdict) ≡ false → r ≡ noReply x (r .verdict)
-not-replied x s w r p = subst (λ (b : Replied). isGood (b .verdict) ≡ false → b ≡ noReply x (b .verdict)) (sym p) (reply-refused x s w)
+    → isGood (r .verdict) ≡ false → r ≡ untold x (r .verdict)
+not-replied x s w r p = subst (λ (b : Replied). isGood (b .verdict) ≡ false → b ≡ untold x (b .verdict)) (sym p) (reply-refused x s w)
 
 pub refused-reply-confirm : (x : Exchanges) (s : ℕ) (r : Replied) → reply-confirm.Post tt (x, (s, tt)) r (x, (s, tt))
-    → isGood (r .verdict) ≡ false → r ≡ noReply x (r .verdict)
+    → isGood (r .verdict) ≡ false → r ≡ untold x (r .verdict)
 refused-reply-confirm x s r p = not-replied x s Confirm r p
 
 pub refused-reply-answer : (x : Exchanges) (s : ℕ) (r : Replied) → reply-answer.Post tt (x, (s, tt)) r (x, (s, tt))
-    → isGood (r .verdict) ≡ false → r ≡ noReply x (r .verdict)
+    → isGood (r .verdict) ≡ false → r ≡ untold x (r .verdict)
 refused-reply-answer x s r p = not-replied x s Answer r p
 
 pub refused-reply-deny : (x : Exchanges) (s : ℕ) (r : Replied) → reply-deny.Post tt (x, (s, tt)) r (x, (s, tt))
-    → isGood (r .verdict) ≡ false → r ≡ noReply x (r .verdict)
+    → isGood (r .verdict) ≡ false → r ≡ untold x (r .verdict)
 refused-reply-deny x s r p = not-replied x s Deny r p
 
 pub refused-reply-bad-answer : (x : Exchanges) (s : ℕ) (r : Replied) → reply-bad-answer.Post tt (x, (s, tt)) r (x, (s, tt))
-    → isGood (r .verdict) ≡ false → r ≡ noReply x (r .verdict)
+    → isGood (r .verdict) ≡ false → r ≡ untold x (r .verdict)
 refused-reply-bad-answer x s r p = not-replied x s BadAnswer r p
 
 -- trawnosz_take_packet: the table that was given, whether the packet is refused or the reply that it is
 pub refused-take-packet : (κs : _) (x : Exchanges) (p : RefT (List ℕ)) (r : Replied) → take-packet.Post κs (x, (p, tt)) r (x, (p, tt))
-    → isGood (r .verdict) ≡ false → r ≡ noReply x (r .verdict)
+    → isGood (r .verdict) ≡ false → r ≡ untold x (r .verdict)
 refused-take-packet κs x p r q =
-    subst (λ (b : Replied). isGood (b .verdict) ≡ false → b ≡ noReply x (b .verdict)) (sym q) (taken-kept rows x (now p))
+    subst (λ (b : Replied). isGood (b .verdict) ≡ false → b ≡ untold x (b .verdict)) (sym q) (taken-kept rows x (now p))
 
 -- trawnosz_tick
 abbrev pub noTick : Exchanges → Verdict → Ticked

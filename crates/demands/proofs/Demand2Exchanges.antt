@@ -20,7 +20,7 @@ use Rattle.exchange.specs.Before.{Left, inTwo}
 use Rattle.exchange.specs.Begins.{headed, modeOf, draftVerdict, begunVerdict, unbegun, begunOutput}
 use Rattle.exchange.specs.Calls.{Asked, begunBy, Call, tick, reply, verdictOf, after, run, Sound}
 use Rattle.exchange.specs.Histories.{opens, toldOf, stepBy, denies, Seen, history, sends, since, count}
-use Rattle.exchange.specs.Table.{inRange, legal, blank, made, found, placed, entered, answered, ticking}
+use Rattle.exchange.specs.Table.{inRange, legal, blank, made, found, placed, entered, untold, answered, ticking}
 use Rattle.exchange.proofs.Draft.{the-row}
 use Rattle.exchange.proofs.Answers.{made-refused, made-good}
 use Rattle.exchange.proofs.Before.{others-refused, same-verdict, same-output, same-written, same-unfound, refused-differs}
@@ -45,7 +45,7 @@ use Rattle.place.specs.Rules.{free, opened, isOpen}
 use Rattle.place.specs.Steps.{NOTHING, CONFIRMED, ANSWERED, RESENT, FAILED, becomes, counted, ticked, fits, replied}
 use Rattle.places.specs.declared.Report.{Report}
 use Rattle.places.specs.Rows.{placeAt, isOpenAs, upward, unopened, nothing}
-use Rattle.taking.specs.Takes.{roleOf, untold, taken}
+use Rattle.taking.specs.Takes.{roleOf, taken}
 use Rattle.taking.proofs.Promises.{lateRefused, isReply, taken-confirm, taken-answer, taken-deny, taken-bad-answer, taken-other, taken-refused, callsAs, taken-run}
 use Rattle.verdict.specs.declared.Verdict.{Verdict}
 use Rattle.trawnosz.proofs.trawnosz_begin_and_write.Reads as begin-and-write

@@ -33,7 +33,7 @@ use Rattle.exchange.specs.declared.Begun.{Begun}
 use Rattle.exchange.specs.declared.Replied.{Replied}
 use Rattle.exchange.specs.declared.Ticked.{Ticked}
 use Rattle.exchange.specs.Begins.{headedBy, modeOf, begunVerdict, unbegun, begun, begunOutput}
-use Rattle.exchange.specs.Table.{inRange, legal, made, unfound, found, entered, placed, stepped, unanswered, answered, ticking}
+use Rattle.exchange.specs.Table.{inRange, legal, made, unfound, found, entered, placed, stepped, untold, answered, ticking}
 use Rattle.exchange.proofs.Answers.{made-refused, made-good, found-state, found-full, found-good, found-place}
 use Rattle.exchange.proofs.Begins.{draft-judged, find-decides, draft-decides, taken-by, begun-refused, output-kept, opening-at, begun-good, output-written, begun-few}
 use Rattle.exchange.proofs.Answers.{answered-state, answered-stray, answered-good, ticking-state, ticking-good, after-tick}
@@ -75,17 +75,17 @@ pub ruleset finding = (find-unset, find-broken, find-full, find-good)
 
 -- a reply: a is what is handed back, f what the places told
 module _ (x : Exchanges) (s : ℕ) (w : Reply) (ranged : Bool) (r : ranged ≡ inRange (x .timeout) (x .resends)) where
-  pub reply-unset : (a : Replied) → not ranged ≡ true → a ≡ unanswered x STATE → a ≡ answered x s w
+  pub reply-unset : (a : Replied) → not ranged ≡ true → a ≡ untold x (refusal STATE 0) → a ≡ answered x s w
   reply-unset a n e = e ∙ sym (answered-state x s w (sym (out-of-range x ranged r n)))
 
   module _ (n : not ranged ≡ false) (f : Search) (told : f ≡ reached (x .timeout) (x .resends) (x .places) 0 16 s w) where
     kept-is : (b : Bool) → areSound (x .timeout) (x .resends) (x .places) 0 16 ≡ b → legal x ≡ b
     kept-is b e = sym (places-decide x ranged r b n (sym e))
 
-    pub reply-broken : (a : Replied) → f ≡ Broken → a ≡ unanswered x STATE → a ≡ answered x s w
+    pub reply-broken : (a : Replied) → f ≡ Broken → a ≡ untold x (refusal STATE 0) → a ≡ answered x s w
     reply-broken a q e = e ∙ sym (answered-state x s w (kept-is false (is-broken (x .timeout) (x .resends) (x .places) 0 16 _ _ (sym q ∙ told))))
 
-    pub reply-stray : (a : Replied) → f ≡ Nothing → a ≡ unanswered x STRAY → a ≡ answered x s w
+    pub reply-stray : (a : Replied) → f ≡ Nothing → a ≡ untold x (refusal STRAY 0) → a ≡ answered x s w
     reply-stray a q e =
         let is = is-nothing (x .timeout) (x .resends) (x .places) 0 16 _ _ (sym q ∙ told) in
         e ∙ sym (answered-stray x s w (kept-is true (is .0)) (is .1))
@@ -106,7 +106,7 @@ pub step-so : (x : Exchanges) (k : ℕ) (w : Reply) (v : Verdict) (step : Step) 
 step-so x k w v step e d = λ i. record { verdict = e i; place = k; outcome = d i .outcome; state = placed x (set (x .places) k (d i .place)) }
 
 pub no-reply : (x : Exchanges) (v : Verdict) (n : ℕ) → v ≡ refusal n 0
-    → _≡_ {A = Replied} (record { verdict = v; place = 0; outcome = NOTHING; state = x }) (unanswered x n)
+    → _≡_ {A = Replied} (record { verdict = v; place = 0; outcome = NOTHING; state = x }) (untold x (refusal n 0))
 no-reply x v n e = ap (λ (u : Verdict). record { verdict = u; place = 0; outcome = NOTHING; state = x }) e
 
 pub none-so : (v : Verdict) (n : ℕ) → v ≡ refusal n 0 → _≡_ {A = Found} (record { verdict = v; place = 0; serial = 0 }) (unfound n)

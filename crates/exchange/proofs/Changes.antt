@@ -2,11 +2,11 @@
 -- the settings. By the calls' definitions. Assumes nothing.
 use Prim.Native.Nat.{ℕ, _+_, _<_}
 use native.Mathlib.Omega.{arith}
-use mathlib.Core.Bool.{Bool, true, false, cond}
+use mathlib.Core.Bool.{Bool, true, false, cond, true≢false}
 use mathlib.Core.List.{List, [], _∷_}
 use mathlib.Core.Path.{_≡_, refl, sym, ap, subst, subst⁻¹, _∙_}
 use borrow.Author.Tests.{not-true, not-false}
-use lib.ListN.{getD, set, replicate}
+use lib.ListN.{getD, replicate}
 use Rattle.octets.specs.Searches.{firstFit}
 use Rattle.octets.proofs.Searches.{first-fits, first-none}
 use Rattle.kinds.specs.Table.{rows}
@@ -14,20 +14,24 @@ use Rattle.verdict.specs.Orders.{good, isGood, inOrder}
 use Rattle.place.specs.declared.Place.{Place}
 use Rattle.place.specs.declared.Reply.{Reply}
 use Rattle.place.specs.Rules.{opened, isOpen}
-use Rattle.place.specs.Steps.{NOTHING, ticked, replied}
+use Rattle.place.specs.Steps.{ticked, replied}
 use Rattle.exchange.specs.declared.Exchanges.{Exchanges}
 use Rattle.exchange.specs.declared.Begun.{Begun}
 use Rattle.exchange.specs.declared.Replied.{Replied}
 use Rattle.exchange.specs.declared.Ticked.{Ticked}
 use Rattle.places.specs.Rows.{placeAt, freeAt, lowestFree, isOpenAs, upward, unopened, serialFor, fitting, report, nothing, swept}
 use Rattle.exchange.specs.Begins.{modeOf, begunVerdict, unbegun, begunOutput}
-use Rattle.exchange.specs.Table.{blank, made, found, placed, entered, replyTests, answered, ticking}
+use Rattle.exchange.specs.Table.{blank, made, found, placed, entered, replyTests, stepped, untold, answered, ticking}
 use Rattle.exchange.specs.Calls.{Asked, begunBy, Call, begin, reply, tick, verdictOf, after, run}
 use Rattle.places.proofs.Serials.{serial-unopened, serial-first}
 use Rattle.places.proofs.Rules.{unchanged}
 use Rattle.exchange.proofs.Answers.{found-place, found-lowest, found-serial}
 use Rattle.exchange.proofs.Begins.{Taken, taken-by, begun-refused, output-kept, opening-at, begun-good, begun-verdict}
 use Rattle.exchange.proofs.Kept.{aged-at, told-at}
+
+-- a reply's answer by whether its verdict is good
+abbrev by-verdict : Exchanges → ℕ → Reply → Bool → Replied
+by-verdict x s w b = cond b (stepped x (fitting (x .places) 0 16 s w) w) (untold x (inOrder (replyTests x s w) good))
 
 -- "A refusal returns its number and place .., zero or nothing for all else, .. gives the state back as it came"
 module _ (x : Exchanges) where
@@ -42,10 +46,13 @@ module _ (x : Exchanges) where
     pub begin-unwritten : begunOutput rows x (a .out) (a .draft) (a .size) ≡ a .out
     begin-unwritten = output-kept rows x (a .out) (a .draft) (a .size) (ap isGood (sym told) ∙ e)
 
-  pub reply-refused : (s : ℕ) (w : Reply) → isGood (answered x s w .verdict) ≡ false
-      → answered x s w ≡ record { verdict = answered x s w .verdict; place = 0; outcome = NOTHING; state = x }
+  pub reply-refused : (s : ℕ) (w : Reply) → isGood (answered x s w .verdict) ≡ false → answered x s w ≡ untold x (answered x s w .verdict)
   unfolding answered
-  reply-refused s w e = simp e
+  reply-refused s w = by-test (isGood (inOrder (replyTests x s w) good))
+    where
+      by-test : (b : Bool) → isGood (by-verdict x s w b .verdict) ≡ false → by-verdict x s w b ≡ untold x (by-verdict x s w b .verdict)
+      by-test true e = absurd (true≢false e)
+      by-test false e = refl
 
   pub tick-refused : isGood (ticking x .verdict) ≡ false
       → ticking x ≡ record { verdict = ticking x .verdict; reports = replicate 16 nothing; state = x }
@@ -124,30 +131,30 @@ module _ (x : Exchanges) (a : Asked) (e : isGood (begunBy x a .verdict) ≡ true
       ap (λ (y : Exchanges). placeAt (y .places) k) begun-state
       ∙ unchanged (x .places) (begunBy x a .place) (opened (begunBy x a .serial) (modeOf (a .draft .command))) k h
 
--- a reply changes one place at most
-pub reply-others : (x : Exchanges) (s : ℕ) (w : Reply) (k : ℕ) → (k ≡ answered x s w .place → ⊥)
-    → placeAt (answered x s w .state .places) k ≡ placeAt (x .places) k
-unfolding answered
-reply-others x s w k = by-test (isGood (inOrder (replyTests x s w) good))
-  where
-    n : ℕ
-    n = fitting (x .places) 0 16 s w
+-- a reply changes one place at most, and nothing beside the places
+module _ (x : Exchanges) (s : ℕ) (w : Reply) where
+  pub reply-others : (k : ℕ) → (k ≡ answered x s w .place → ⊥) → placeAt (answered x s w .state .places) k ≡ placeAt (x .places) k
+  unfolding answered
+  reply-others k = by-test (isGood (inOrder (replyTests x s w) good))
+    where
+      by-test : (b : Bool) → (k ≡ by-verdict x s w b .place → ⊥) → placeAt (by-verdict x s w b .state .places) k ≡ placeAt (x .places) k
+      by-test true h =
+          let n = fitting (x .places) 0 16 s w in
+          unchanged (x .places) n (replied (x .resends) w (placeAt (x .places) n) .place) k h
+      by-test false h = refl
 
-    q : Place
-    q = replied (x .resends) w (placeAt (x .places) n) .place
+  pub reply-rest : answered x s w .state ≡ placed x (answered x s w .state .places)
+  unfolding answered
+  reply-rest = by-test (isGood (inOrder (replyTests x s w) good))
+    where
+      by-test : (b : Bool) → by-verdict x s w b .state ≡ placed x (by-verdict x s w b .state .places)
+      by-test true = refl
+      by-test false = refl
 
-    by-test : (b : Bool) → (k ≡ cond b n 0 → ⊥) → placeAt (cond b (placed x (set (x .places) n q)) x .places) k ≡ placeAt (x .places) k
-    by-test true h = unchanged (x .places) n q k h
-    by-test false h = refl
-
--- a reply and a tick change nothing beside the places
+-- a tick too
 rest : (x : Exchanges) (b : Bool) (ps : List Place) → cond b (placed x ps) x ≡ placed x (cond b (placed x ps) x .places)
 rest x true ps = refl
 rest x false ps = refl
-
-pub reply-rest : (x : Exchanges) (s : ℕ) (w : Reply) → answered x s w .state ≡ placed x (answered x s w .state .places)
-unfolding answered
-reply-rest x s w = rest x (isGood (inOrder (replyTests x s w) good)) _
 
 pub tick-rest : (x : Exchanges) → ticking x .state ≡ placed x (ticking x .state .places)
 unfolding ticking

@@ -5,6 +5,7 @@ use mathlib.Core.Bool.{Bool, _&&_, cond}
 use mathlib.Core.List.{List, [], _∷_}
 use lib.Dec.{leb, ltb}
 use lib.ListN.{set, replicate}
+use Rattle.verdict.specs.declared.Verdict.{Verdict}
 use Rattle.verdict.specs.Refusals.{STATE, SETTING, FULL, STRAY}
 use Rattle.verdict.specs.Orders.{Test, refusal, good, isGood, inOrder, _or-else_}
 use Rattle.place.specs.declared.Place.{Place}
@@ -41,6 +42,7 @@ made t r =
 abbrev pub beginTests : Exchanges → List Test
 beginTests x = (legal x or-else STATE) ∷ (ltb (lowestFree (x .places) 0 16) 16 or-else FULL) ∷ []
 
+-- where there are none: "zero or nothing for all else"
 abbrev pub unfound : ℕ → Found
 unfound n = record { verdict = refusal n 0; place = 0; serial = 0 }
 
@@ -73,21 +75,15 @@ stepped x k w =
     let step = replied (x .resends) w (placeAt (x .places) k) in
     record { verdict = good; place = k; outcome = step .outcome; state = placed x (set (x .places) k (step .place)) }
 
-abbrev pub unanswered : Exchanges → ℕ → Replied
-unanswered x n = record { verdict = refusal n 0; place = 0; outcome = NOTHING; state = x }
+-- nothing told, and the table as it came: "zero or nothing for all else, .. gives the state back as it came"
+abbrev pub untold : Exchanges → Verdict → Replied
+untold x v = record { verdict = v; place = 0; outcome = NOTHING; state = x }
 
 -- "A reply is given as its serial and one of confirm, answer, deny, bad answer": the place that it fits takes its step
 unfoldable pub answered : Exchanges → ℕ → Reply → Replied
 answered x s w =
     let v = inOrder (replyTests x s w) good in
-    let k = fitting (x .places) 0 16 s w in
-    let step = replied (x .resends) w (placeAt (x .places) k) in
-    record {
-      verdict = v;
-      place = cond (isGood v) k 0;
-      outcome = cond (isGood v) (step .outcome) NOTHING;
-      state = cond (isGood v) (placed x (set (x .places) k (step .place))) x;
-    }
+    cond (isGood v) (stepped x (fitting (x .places) 0 16 s w) w) (untold x v)
 
 -- "The tick answers all sixteen places."
 unfoldable pub ticking : Exchanges → Ticked

@@ -4,7 +4,8 @@ ghost use mathlib.Core.Bool.{cond};
 ghost use Prim.Native.Nat.{_<_};
 ghost use Rattle.kinds.specs.Table.{rows};
 ghost use Rattle.place.specs.Rules.{isOpen};
-ghost use Rattle.exchange.specs.Table.{inRange, legal, made, unfound, found, entered, stepped, unanswered, answered, ticking};
+ghost use Rattle.verdict.specs.Orders.{refusal};
+ghost use Rattle.exchange.specs.Table.{inRange, legal, made, unfound, found, entered, stepped, untold, answered, ticking};
 ghost use Rattle.exchange.specs.Begins.{headedBy, modeOf, unbegun, begun, begunOutput};
 use label::Label;
 use packet::Header;
@@ -251,7 +252,7 @@ impl Exchanges {
 
     // A reply that was refused.
     fn unanswered(self, number: u8) -> Replied
-        ensures { λ r. ⌜ r ≡ unanswered self number ⌝ }
+        ensures { λ r. ⌜ r ≡ untold self (refusal number 0) ⌝ }
     {
         Replied {
             verdict: Verdict::refused(number, 0),

@@ -7,7 +7,7 @@ use mathlib.Core.Path.{_≡_, refl, sym, ap, _∙_}
 use lib.Dec.{eqb}
 use Rattle.exchange.specs.declared.Exchanges.{Exchanges}
 use Rattle.exchange.specs.Calls.{Call, reply, after, run}
-use Rattle.exchange.specs.Table.{answered}
+use Rattle.exchange.specs.Table.{untold, answered}
 use Rattle.exchange.proofs.Changes.{reply-refused}
 use Rattle.frame.specs.Frame.{frameTests}
 use Rattle.kinds.specs.declared.Row.{Row}
@@ -22,7 +22,7 @@ use Rattle.verdict.specs.Refusals.{COMMAND}
 use Rattle.verdict.proofs.Order.{all-passed, good-held, held-good, goes-on, good-is}
 use Rattle.taking.specs.declared.Role.{Role}
 use Rattle.taking.specs.declared.Role.the-variants.{Other, Is}
-use Rattle.taking.specs.Takes.{roleIn, roleOf, untold, takenAs, taken}
+use Rattle.taking.specs.Takes.{roleIn, roleOf, takenAs, taken}
 
 -- whether a packet was refused at VERSION or later: its frame is good, and what stands in it is not
 abbrev pub lateRefused : List Row → List ℕ → Bool

@@ -7,7 +7,7 @@ use borrow.Author.Tests.{eq-eqb, ne-eqb}
 use lib.ListN.{take, drop}
 use Rattle.exchange.specs.declared.Exchanges.{Exchanges}
 use Rattle.exchange.specs.declared.Replied.{Replied}
-use Rattle.exchange.specs.Table.{answered}
+use Rattle.exchange.specs.Table.{untold, answered}
 use Rattle.frame.specs.Frame.{frameTests}
 use Rattle.kinds.specs.declared.Row.{Row}
 use Rattle.octets.specs.Numbers.{lowFirst}
@@ -21,7 +21,7 @@ use Rattle.verdict.specs.declared.Verdict.{Verdict}
 use Rattle.verdict.specs.Orders.{inOrder, good, isGood}
 use Rattle.taking.specs.declared.Role.{Role}
 use Rattle.taking.specs.declared.Role.the-variants.{Other, Is}
-use Rattle.taking.specs.Takes.{roleIn, roleOf, untold, takenAs, taken}
+use Rattle.taking.specs.Takes.{roleIn, roleOf, takenAs, taken}
 
 -- what a command is, in a packet of a good frame
 module _ (c : ℕ) where

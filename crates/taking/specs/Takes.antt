@@ -6,13 +6,12 @@ use mathlib.Core.List.{List}
 use lib.Dec.{eqb}
 use Rattle.exchange.specs.declared.Exchanges.{Exchanges}
 use Rattle.exchange.specs.declared.Replied.{Replied}
-use Rattle.exchange.specs.Table.{answered}
+use Rattle.exchange.specs.Table.{untold, answered}
 use Rattle.frame.specs.Frame.{frameTests}
 use Rattle.kinds.specs.declared.Row.{Row}
 use Rattle.packet.specs.Frames.{commandOf, judgedContent, judgedPacket}
 use Rattle.packet.specs.Headers.{headerOf}
 use Rattle.place.specs.declared.Reply.the-variants.{Confirm, Answer, Deny, BadAnswer}
-use Rattle.place.specs.Steps.{NOTHING}
 use Rattle.verdict.specs.declared.Verdict.{Verdict}
 use Rattle.verdict.specs.Orders.{inOrder, good, isGood}
 use Rattle.taking.specs.declared.Role.{Role}
@@ -26,10 +25,6 @@ roleIn false c = cond (eqb c 5) (Is BadAnswer) Other
 -- "refused at VERSION or later" is by the order: the frame is good and the content is not
 unfoldable pub roleOf : List Row → List ℕ → Role
 roleOf rs p = cond (isGood (inOrder (frameTests 1024 p) good)) (roleIn (isGood (judgedContent rs p)) (commandOf p)) Other
-
--- nothing told, and the table as it came
-abbrev pub untold : Exchanges → Verdict → Replied
-untold x v = record { verdict = v; place = 0; outcome = NOTHING; state = x }
 
 -- a reply is the table's own call under a serial; any other packet comes back as what the judge says of it
 unfoldable pub takenAs : Role → Exchanges → ℕ → Verdict → Replied

@@ -2,7 +2,8 @@
 ghost use mathlib.Core.Path.{_≡_};
 ghost use mathlib.Core.Bool.{true};
 ghost use Rattle.kinds.specs.Table.{rows};
-ghost use Rattle.taking.specs.Takes.{roleIn, untold, taken};
+ghost use Rattle.exchange.specs.Table.{untold};
+ghost use Rattle.taking.specs.Takes.{roleIn, taken};
 use exchange::Exchanges;
 use exchange::Replied;
 use place::Reply;

@@ -5,6 +5,10 @@ use Rattle.exchange.proofs.Calls.{replying}
 use Rattle.exchange.proofs.Exchanges.reply.Statement.{statement}
 use Rattle.exchange.proofs.Exchanges.reply.Tie as tie
 
+-- the stray reply stands before the rest, so that an edit that passes a place over is refused there
+returns-3 : tie.Need-returns-3
+returns-3 c = search replying
+
 pub reply-spec : {M : Type 1} → statement M
 reply-spec =
     tie.close
@@ -20,5 +24,5 @@ reply-spec =
     (λ c. search needs)
     (λ c κs. search replying)
     (λ c. search replying)  -- Search::Broken
-    (λ c. search replying)  -- Search::Nothing
+    returns-3  -- Search::Nothing
     (λ c. search replying))
