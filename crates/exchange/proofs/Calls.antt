@@ -48,26 +48,26 @@ module _ (x : Exchanges) (ranged : Bool) (r : ranged ≡ inRange (x .timeout) (x
   unfolding legal
   places-decide sound n e = e ∙ simp (on r n)
 
+  legal-as : not ranged ≡ false → (b : Bool) → areSound (x .timeout) (x .resends) (x .places) 0 16 ≡ b → legal x ≡ b
+  legal-as n b e = sym (places-decide b n (sym e))
+
   -- finding a place and a serial: f is what is handed back, o what the places told
   pub find-unset : (f : Found) → not ranged ≡ true → f ≡ unfound STATE → f ≡ found x
   find-unset f n e = e ∙ sym (found-state x (sym (out-of-range n)))
 
   module _ (n : not ranged ≡ false) (o : Search) (told : o ≡ opening (x .timeout) (x .resends) (x .places) 0 16 (x .next)) where
-    sound-is : (b : Bool) → areSound (x .timeout) (x .resends) (x .places) 0 16 ≡ b → legal x ≡ b
-    sound-is b e = sym (places-decide b n (sym e))
-
     pub find-broken : (f : Found) → o ≡ Broken → f ≡ unfound STATE → f ≡ found x
-    find-broken f q e = e ∙ sym (found-state x (sound-is false (is-broken (x .timeout) (x .resends) (x .places) 0 16 _ _ (sym q ∙ told))))
+    find-broken f q e = e ∙ sym (found-state x (legal-as n false (is-broken (x .timeout) (x .resends) (x .places) 0 16 _ _ (sym q ∙ told))))
 
     pub find-full : (f : Found) → o ≡ Nothing → f ≡ unfound FULL → f ≡ found x
     find-full f q e =
         let is = is-nothing (x .timeout) (x .resends) (x .places) 0 16 _ _ (sym q ∙ told) in
-        e ∙ sym (found-full x (sound-is true (is .0)) (is .1))
+        e ∙ sym (found-full x (legal-as n true (is .0)) (is .1))
 
     pub find-good : (v : Verdict) (k s : ℕ) → o ≡ At k s → v ≡ good → _≡_ {A = Found} (record { verdict = v; place = k; serial = s }) (found x)
     find-good v k s q e =
         let is = is-at (x .timeout) (x .resends) (x .places) 0 16 _ _ k s (sym q ∙ told) in
-        (λ i. record { verdict = e i; place = is .2 i; serial = is .3 i }) ∙ sym (found-good x (sound-is true (is .0)) (is .1))
+        (λ i. record { verdict = e i; place = is .2 i; serial = is .3 i }) ∙ sym (found-good x (legal-as n true (is .0)) (is .1))
 
 pub ruleset keeping = (out-of-range, places-decide)
 
@@ -79,16 +79,13 @@ module _ (x : Exchanges) (s : ℕ) (w : Reply) (ranged : Bool) (r : ranged ≡ i
   reply-unset a n e = e ∙ sym (answered-state x s w (sym (out-of-range x ranged r n)))
 
   module _ (n : not ranged ≡ false) (f : Search) (told : f ≡ reached (x .timeout) (x .resends) (x .places) 0 16 s w) where
-    kept-is : (b : Bool) → areSound (x .timeout) (x .resends) (x .places) 0 16 ≡ b → legal x ≡ b
-    kept-is b e = sym (places-decide x ranged r b n (sym e))
-
     pub reply-broken : (a : Replied) → f ≡ Broken → a ≡ untold x (refusal STATE 0) → a ≡ answered x s w
-    reply-broken a q e = e ∙ sym (answered-state x s w (kept-is false (is-broken (x .timeout) (x .resends) (x .places) 0 16 _ _ (sym q ∙ told))))
+    reply-broken a q e = e ∙ sym (answered-state x s w (legal-as x ranged r n false (is-broken (x .timeout) (x .resends) (x .places) 0 16 _ _ (sym q ∙ told))))
 
     pub reply-stray : (a : Replied) → f ≡ Nothing → a ≡ untold x (refusal STRAY 0) → a ≡ answered x s w
     reply-stray a q e =
         let is = is-nothing (x .timeout) (x .resends) (x .places) 0 16 _ _ (sym q ∙ told) in
-        e ∙ sym (answered-stray x s w (kept-is true (is .0)) (is .1))
+        e ∙ sym (answered-stray x s w (legal-as x ranged r n true (is .0)) (is .1))
 
     module _ (k y : ℕ) (q : f ≡ At k y) where
       at : (areSound (x .timeout) (x .resends) (x .places) 0 16 ≡ true) × (fitting (x .places) 0 16 s w < 16) × (k ≡ fitting (x .places) 0 16 s w) × (y ≡ s)
@@ -98,7 +95,7 @@ module _ (x : Exchanges) (s : ℕ) (w : Reply) (ranged : Bool) (r : ranged ≡ i
       reply-inside = omega (arith, at .1, at .2)
 
       pub reply-good : (a : Replied) → a ≡ stepped x k w → a ≡ answered x s w
-      reply-good a e = e ∙ ap (λ (j : ℕ). stepped x j w) (at .2) ∙ sym (answered-good x s w (kept-is true (at .0)) (at .1))
+      reply-good a e = e ∙ ap (λ (j : ℕ). stepped x j w) (at .2) ∙ sym (answered-good x s w (legal-as x ranged r n true (at .0)) (at .1))
 
 -- the step of a place
 pub step-so : (x : Exchanges) (k : ℕ) (w : Reply) (v : Verdict) (step : Step) → v ≡ good → step ≡ replied (x .resends) w (placeAt (x .places) k)

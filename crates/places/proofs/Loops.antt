@@ -92,21 +92,20 @@ module _ (t r : ℕ) (ps : List Place) (from to : ℕ) (long : length ps ≡ 16)
           small = more-small (λ a. absurd (false≢true (sym o ∙ a)));
         }
 
+    unsound : false ≡ areSound t r ps from to → Surveyed t r ps from to (record { sound = false; row = row })
+    unsound e = record { sound = e; held = λ f. absurd (false≢true f); small = λ f. absurd (false≢true f) }
+
     -- k is whether it keeps the rules for a place
     module _ (n : not z ≡ true) (k : Bool) (keeping : k ≡ keeps t r (placeAt ps (i - 1))) where
       pub one-breaks : not k ≡ true → Surveyed t r ps from to (record { sound = false; row = row })
       unfolding areSound
       one-breaks m =
-          record {
-            sound =
-                by-test (allKeep t r ps from to)
-                (λ a.
-                let yes = keep-each t r ps from to a (i - 1) (omega arith) (omega (arith, s .least)) in
-                absurd (false≢true (sym (off keeping m) ∙ yes)))
-                (λ a. simp a);
-            held = λ e. absurd (false≢true e);
-            small = λ e. absurd (false≢true e);
-          }
+          unsound
+          (by-test (allKeep t r ps from to)
+          (λ a.
+          let yes = keep-each t r ps from to a (i - 1) (omega arith) (omega (arith, s .least)) in
+          absurd (false≢true (sym (off keeping m) ∙ yes)))
+          (λ a. simp a))
 
       -- b is whether its serial stands in the row
       module _ (m : not k ≡ false) (b : Bool) (told : (b ≡ standsIn row (placeAt ps (i - 1) .serial)) × (placeAt ps (i - 1) .serial < 65536)) where
@@ -123,11 +122,7 @@ module _ (t r : ℕ) (ps : List Place) (from to : ℕ) (long : length ps ≡ 16)
         unfolding areSound
         one-double e =
             let two : true ≡ twice ps from to = double-found ps to i from (i - 1) (omega arith) (omega (arith, s .least)) (sym double-is ∙ e) in
-            record {
-              sound = sym (and-false (allKeep t r ps from to)) ∙ ap (λ (d : Bool). allKeep t r ps from to && not d) two;
-              held = λ e. absurd (false≢true e);
-              small = λ e. absurd (false≢true e);
-            }
+            unsound (sym (and-false (allKeep t r ps from to)) ∙ ap (λ (d : Bool). allKeep t r ps from to && not d) two)
 
         -- an open one
         pub looked-open : b ≡ false → Looked t r ps from to (set row (i - 1) (placeAt ps (i - 1) .serial)) (i - 1)
