@@ -3,7 +3,7 @@
 -- becomes of each place and what is told of it. Assumes nothing.
 use Prim.Native.Nat.{ℕ, _+_, _≤_, _<_}
 use mathlib.Core.Bool.{true, false, _&&_}
-use mathlib.Core.List.{List, []}
+use mathlib.Core.List.{List, reverse}
 use mathlib.Core.Logic.{_↔_}
 use mathlib.Core.Path.{_≡_, refl, sym, ap, subst⁻¹, _∙_}
 use denote.Laws.{Is}
@@ -19,7 +19,8 @@ use Rattle.exchange.specs.declared.Exchanges.{Exchanges}
 use Rattle.exchange.specs.Before.{Left, inTwo}
 use Rattle.exchange.specs.Begins.{headed, modeOf, draftVerdict, begunVerdict, unbegun, begunOutput}
 use Rattle.exchange.specs.Calls.{Asked, begunBy, Call, tick, reply, verdictOf, after, run, Sound}
-use Rattle.exchange.specs.Histories.{opens, toldOf, stepBy, denies, Seen, history, sends, since, count}
+use Rattle.exchange.specs.Logs.{Line, lineOf, logged, isTick, begins, tells, resends, sends, count, upTo}
+use Rattle.exchange.specs.Steps.{stepBy, denies}
 use Rattle.exchange.specs.Table.{inRange, legal, blank, made, found, placed, entered, untold, answered, ticking}
 use Rattle.exchange.proofs.Draft.{the-row}
 use Rattle.exchange.proofs.Answers.{made-refused, made-good}
@@ -199,7 +200,7 @@ module _ (x : Exchanges) (sound : Sound x) (s : ℕ) (w : Reply) where
 module _ (x : Exchanges) (sound : Sound x) (k : ℕ) (here : k < 16) where
   -- the place at k, with what a call tells of it
   abbrev afterwards : Call → Step
-  afterwards c = becomes (placeAt (after x c .places) k) (toldOf x c k)
+  afterwards c = becomes (placeAt (after x c .places) k) (tells k (lineOf x c))
 
   abbrev p : Place
   p = placeAt (x .places) k
@@ -219,7 +220,7 @@ module _ (x : Exchanges) (sound : Sound x) (k : ℕ) (here : k < 16) where
 
   -- "A tick adds 1 to each age; reaching T acts as deny. The tick answers all sixteen places.": it is always taken, and each place takes its step
   pub tick-each-place : (ticking x .verdict ≡ good) × (afterwards tick ≡ ticked (x .timeout) (x .resends) p)
-  unfolding opens stepBy
+  unfolding begins lineOf stepBy
   tick-each-place = (tick-taken x sound, each-step x sound k here tick refl)
 
   -- with its serial, since a failed place is freed
@@ -231,16 +232,16 @@ module _ (x : Exchanges) (sound : Sound x) (k : ℕ) (here : k < 16) where
 
   -- RESENDS: "with fewer than R resends it is resent, one resend more and age 0, else it has failed and is freed": exactly when a denial or a bad
   -- answer that fits the place, or the tick that brings its age to T, comes
-  pub resent-exactly : (c : Call) → (toldOf x c k ≡ RESENT) ↔ ((denies (x .timeout) p c ≡ true) × (p .resends < x .resends))
+  pub resent-exactly : (c : Call) → (tells k (lineOf x c) ≡ RESENT) ↔ ((denies (x .timeout) p c ≡ true) × (p .resends < x .resends))
   resent-exactly = resent-when x sound k here
 
-  pub failed-exactly : (c : Call) → (toldOf x c k ≡ FAILED) ↔ ((denies (x .timeout) p c ≡ true) × (p .resends ≡ x .resends))
+  pub failed-exactly : (c : Call) → (tells k (lineOf x c) ≡ FAILED) ↔ ((denies (x .timeout) p c ≡ true) × (p .resends ≡ x .resends))
   failed-exactly = failed-when x sound k here
 
-  pub resent-becomes : (c : Call) → toldOf x c k ≡ RESENT → placeAt (after x c .places) k ≡ counted (p .resends + 1) 0 p
+  pub resent-becomes : (c : Call) → tells k (lineOf x c) ≡ RESENT → placeAt (after x c .places) k ≡ counted (p .resends + 1) 0 p
   resent-becomes = resent-place x sound k here
 
-  pub failed-becomes : (c : Call) → toldOf x c k ≡ FAILED → placeAt (after x c .places) k ≡ free
+  pub failed-becomes : (c : Call) → tells k (lineOf x c) ≡ FAILED → placeAt (after x c .places) k ≡ free
   failed-becomes = failed-place x sound k here
 
   -- any other tick is silent, and an open place is one tick older
@@ -253,17 +254,18 @@ module _ (t r : ℕ) (fresh : isGood (made t r .verdict) ≡ true) (cs : List Ca
   abbrev left : Place
   left = placeAt (run (made t r .state) cs .places) k
 
-  abbrev saw : List Seen
-  saw = history k (made t r .state) cs []
+  -- what the calls answered, the latest first
+  abbrev latest : List Line
+  latest = reverse (logged (made t r .state) cs)
 
   module _ (is-open : isOpen (left .mode) ≡ true) where
-    pub open-was-begun : 1 ≤ count (λ e. e .begins) saw
+    pub open-was-begun : 1 ≤ count (begins k) latest
     open-was-begun = accounted k here t r fresh cs is-open .begun
 
-    pub age-is-ticks : left .age ≡ count (λ e. e .ticks) (since sends saw)
+    pub age-is-ticks : left .age ≡ count isTick (upTo (sends k) latest)
     age-is-ticks = accounted k here t r fresh cs is-open .aged
 
-    pub resends-are-told : left .resends ≡ count (λ e. e .resends) (since (λ e. e .begins) saw)
+    pub resends-are-told : left .resends ≡ count (resends k) (upTo (begins k) latest)
     resends-are-told = accounted k here t r fresh cs is-open .resent
 
 -- A PACKET GIVEN AS ITS BYTES: "A reply is given as its serial and one of confirm, answer, deny, bad answer". The call that takes the table and a packet

@@ -161,7 +161,7 @@ unfolding ticking
 tick-rest x = rest x (isGood (ticking x .verdict)) _
 
 -- no call changes T or R
-abbrev Settings : Exchanges → ℕ → ℕ → Type 0
+abbrev pub Settings : Exchanges → ℕ → ℕ → Type 0
 Settings x t r = (x .timeout ≡ t) × (x .resends ≡ r)
 
 begin-set : (x : Exchanges) (a : Asked) → Settings (begunBy x a .state) (x .timeout) (x .resends)
@@ -171,7 +171,7 @@ begin-set x a = by-test (isGood (begunBy x a .verdict)) refl
     by-test true e = subst⁻¹ (λ (y : Exchanges). Settings y (x .timeout) (x .resends)) (begun-state x a e) (refl, refl)
     by-test false e = subst⁻¹ (λ (y : Begun). Settings (y .state) (x .timeout) (x .resends)) (begin-refused x a e) (refl, refl)
 
-settings-stay : (x : Exchanges) (c : Call) → Settings (after x c) (x .timeout) (x .resends)
+pub settings-stay : (x : Exchanges) (c : Call) → Settings (after x c) (x .timeout) (x .resends)
 unfolding after
 settings-stay x (begin a) = begin-set x a
 settings-stay x (reply s w) = (ap (λ (y : Exchanges). y .timeout) (reply-rest x s w), ap (λ (y : Exchanges). y .resends) (reply-rest x s w))

@@ -10,13 +10,14 @@ use Rattle.place.specs.declared.Place.{Place}
 use Rattle.place.specs.declared.Reply.the-variants.{Confirm, Answer, Deny, BadAnswer}
 use Rattle.place.specs.declared.Step.{Step}
 use Rattle.place.specs.Rules.{free, isOpen, keeps}
-use Rattle.place.specs.Steps.{NOTHING, CONFIRMED, ANSWERED, RESENT, FAILED, counted, becomes, denied, ticked, fits, replied}
+use Rattle.place.specs.Steps.{NOTHING, CONFIRMED, ANSWERED, RESENT, FAILED, onceMore, oneOlder, becomes, denied, ticked, fits, replied}
 use Rattle.place.proofs.Answers.{sent-again, has-failed}
 use Rattle.place.proofs.Kept.{holds-is, fits-holds, open-kept}
 use Rattle.places.specs.Rows.{placeAt}
 use Rattle.exchange.specs.declared.Exchanges.{Exchanges}
 use Rattle.exchange.specs.Calls.{Call, begin, reply, tick, after, Sound}
-use Rattle.exchange.specs.Histories.{opens, toldOf, stepBy, isDenial, denies}
+use Rattle.exchange.specs.Logs.{lineOf, begins, tells}
+use Rattle.exchange.specs.Steps.{stepBy, isDenial, denies}
 use Rattle.exchange.proofs.Kept.{rules-of}
 use Rattle.exchange.proofs.Steps.{each-step}
 
@@ -35,7 +36,7 @@ module _ (t r : ℕ) (p : Place) where
       simp (a .0, le-ltb (p .age + 1) t (omega (arith, reached)))
 
   -- a tick that does not: nothing is told, and an open place is one tick older
-  pub older-step : isOpen (p .mode) ≡ true → keeps t r p ≡ true → denies t p tick ≡ false → stepBy t r p tick ≡ becomes (counted (p .resends) (p .age + 1) p) NOTHING
+  pub older-step : isOpen (p .mode) ≡ true → keeps t r p ≡ true → denies t p tick ≡ false → stepBy t r p tick ≡ becomes (oneOlder p) NOTHING
   unfolding denies stepBy ticked
   older-step o k h =
       let young = open-kept t r p o k .0 in
@@ -66,7 +67,7 @@ module _ (t r : ℕ) (p : Place) where
       by-mode : (o : Bool) → isOpen (p .mode) ≡ o → Other (ticked t r p .outcome)
       by-mode true o = subst⁻¹ (λ (y : Step). Other (y .outcome)) (older-step o k h) nothing-told
       by-mode false o =
-          let older = cond (ltb (p .age + 1) t) (becomes (counted (p .resends) (p .age + 1) p) NOTHING) (denied r p) in
+          let older = cond (ltb (p .age + 1) t) (becomes (oneOlder p) NOTHING) (denied r p) in
           subst⁻¹ (λ (b : Bool). Other (cond b older (becomes p NOTHING) .outcome)) o nothing-told
 
   -- only an open place is denied
@@ -89,34 +90,34 @@ module _ (x : Exchanges) (sound : Sound x) (k : ℕ) (here : k < 16) where
   kept : keeps T R p ≡ true
   kept = rules-of x (sound .kept) .keeping k (omega arith) here
 
-  told-step : (c : Call) → toldOf x c k ≡ stepBy T R p c .outcome
-  unfolding toldOf stepBy opens
+  told-step : (c : Call) → tells k (lineOf x c) ≡ stepBy T R p c .outcome
+  unfolding tells lineOf stepBy begins
   told-step (begin a) = refl
   told-step (reply s w) = ap (λ (y : Step). y .outcome) (each-step x sound k here (reply s w) refl)
   told-step tick = ap (λ (y : Step). y .outcome) (each-step x sound k here tick refl)
 
   -- a beginning tells nothing of a place
-  told-unopened : (c : Call) → (toldOf x c k ≡ NOTHING → ⊥) → opens x c k ≡ false
-  unfolding toldOf opens
+  told-unopened : (c : Call) → (tells k (lineOf x c) ≡ NOTHING → ⊥) → begins k (lineOf x c) ≡ false
+  unfolding tells lineOf begins
   told-unopened (begin a) h = absurd (h refl)
   told-unopened (reply s w) h = refl
   told-unopened tick h = refl
 
   -- what a denial tells
-  denial-told : (c : Call) → denies T p c ≡ true → toldOf x c k ≡ denied R p .outcome
+  denial-told : (c : Call) → denies T p c ≡ true → tells k (lineOf x c) ≡ denied R p .outcome
   denial-told c d = told-step c ∙ ap (λ (y : Step). y .outcome) (denial-step T R p c d)
 
-  denial-place : (c : Call) → denies T p c ≡ true → opens x c k ≡ false → placeAt (after x c .places) k ≡ denied R p .place
+  denial-place : (c : Call) → denies T p c ≡ true → begins k (lineOf x c) ≡ false → placeAt (after x c .places) k ≡ denied R p .place
   denial-place c d o = ap (λ (y : Step). y .place) (each-step x sound k here c o ∙ denial-step T R p c d)
 
-  resent-told : (c : Call) → denies T p c ≡ true → p .resends < R → toldOf x c k ≡ RESENT
+  resent-told : (c : Call) → denies T p c ≡ true → p .resends < R → tells k (lineOf x c) ≡ RESENT
   resent-told c d h = denial-told c d ∙ ap (λ (y : Step). y .outcome) (sym (sent-again p R h))
 
-  failed-told : (c : Call) → denies T p c ≡ true → R ≤ p .resends → toldOf x c k ≡ FAILED
+  failed-told : (c : Call) → denies T p c ≡ true → R ≤ p .resends → tells k (lineOf x c) ≡ FAILED
   failed-told c d h = denial-told c d ∙ ap (λ (y : Step). y .outcome) (sym (has-failed p R free refl h))
 
   -- a place that is told resent or failed was denied
-  was-denied : (c : Call) → (Other T R p (toldOf x c k) → ⊥) → denies T p c ≡ true
+  was-denied : (c : Call) → (Other T R p (tells k (lineOf x c)) → ⊥) → denies T p c ≡ true
   was-denied c n = by-test (denies T p c) refl
     where
       by-test : (b : Bool) → denies T p c ≡ b → b ≡ true
@@ -124,27 +125,27 @@ module _ (x : Exchanges) (sound : Sound x) (k : ℕ) (here : k < 16) where
       by-test false d = absurd (n (subst⁻¹ (Other T R p) (told-step c) (other-step T R p kept c d)))
 
   -- "with fewer than R resends it is resent, .. else it has failed"
-  pub resent-when : (c : Call) → (toldOf x c k ≡ RESENT) ↔ ((denies T p c ≡ true) × (p .resends < R))
+  pub resent-when : (c : Call) → (tells k (lineOf x c) ≡ RESENT) ↔ ((denies T p c ≡ true) × (p .resends < R))
   resent-when c = (λ e. by-test e (was-denied c (λ o. o .0 e)) (ltb (p .resends) R) refl, λ h. resent-told c (h .0) (h .1))
     where
-      by-test : toldOf x c k ≡ RESENT → denies T p c ≡ true → (b : Bool) → ltb (p .resends) R ≡ b → (denies T p c ≡ true) × (p .resends < R)
+      by-test : tells k (lineOf x c) ≡ RESENT → denies T p c ≡ true → (b : Bool) → ltb (p .resends) R ≡ b → (denies T p c ≡ true) × (p .resends < R)
       by-test e d true q = (d, ltb-true (p .resends) R q)
       by-test e d false q = absurd (omega (arith, sym e ∙ failed-told c d (ltb-false (p .resends) R q)))
 
-  pub failed-when : (c : Call) → (toldOf x c k ≡ FAILED) ↔ ((denies T p c ≡ true) × (p .resends ≡ R))
+  pub failed-when : (c : Call) → (tells k (lineOf x c) ≡ FAILED) ↔ ((denies T p c ≡ true) × (p .resends ≡ R))
   failed-when c = (λ e. by-test e (was-denied c (λ o. o .1 e)) (ltb (p .resends) R) refl, λ h. failed-told c (h .0) (omega (arith, h .1)))
     where
-      by-test : toldOf x c k ≡ FAILED → denies T p c ≡ true → (b : Bool) → ltb (p .resends) R ≡ b → (denies T p c ≡ true) × (p .resends ≡ R)
+      by-test : tells k (lineOf x c) ≡ FAILED → denies T p c ≡ true → (b : Bool) → ltb (p .resends) R ≡ b → (denies T p c ≡ true) × (p .resends ≡ R)
       by-test e d true q = absurd (omega (arith, sym e ∙ resent-told c d (ltb-true (p .resends) R q)))
       by-test e d false q = (d, omega (arith, ltb-false (p .resends) R q, open-kept T R p (denies-open T R p c d) kept .1))
 
   -- what becomes of it: "one resend more and age 0", "freed"
-  pub resent-place : (c : Call) → toldOf x c k ≡ RESENT → placeAt (after x c .places) k ≡ counted (p .resends + 1) 0 p
+  pub resent-place : (c : Call) → tells k (lineOf x c) ≡ RESENT → placeAt (after x c .places) k ≡ onceMore p
   resent-place c e =
       let h = resent-when c .0 e in
       denial-place c (h .0) (told-unopened c (λ n. omega (arith, sym e ∙ n))) ∙ ap (λ (y : Step). y .place) (sym (sent-again p R (h .1)))
 
-  pub failed-place : (c : Call) → toldOf x c k ≡ FAILED → placeAt (after x c .places) k ≡ free
+  pub failed-place : (c : Call) → tells k (lineOf x c) ≡ FAILED → placeAt (after x c .places) k ≡ free
   failed-place c e =
       let h = failed-when c .0 e in
       denial-place c (h .0) (told-unopened c (λ n. omega (arith, sym e ∙ n)))
@@ -152,6 +153,6 @@ module _ (x : Exchanges) (sound : Sound x) (k : ℕ) (here : k < 16) where
 
   -- any other tick is silent, and an open place is one tick older
   pub tick-silent : isOpen (p .mode) ≡ true → denies T p tick ≡ false
-      → becomes (placeAt (after x tick .places) k) (toldOf x tick k) ≡ becomes (counted (p .resends) (p .age + 1) p) NOTHING
-  unfolding opens
+      → becomes (placeAt (after x tick .places) k) (tells k (lineOf x tick)) ≡ becomes (oneOlder p) NOTHING
+  unfolding begins lineOf
   tick-silent o h = each-step x sound k here tick refl ∙ older-step T R p o kept h

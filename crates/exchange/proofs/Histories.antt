@@ -1,9 +1,9 @@
--- An open place's age and resends are what it has seen of the calls: the ticks since its last sending, and the resends told since its beginning.
+-- An open place's age and resends are what the log has of it: the ticks since its last sending, and the resends told since its beginning.
 -- By one call more, from a fresh table, in which no place is open. Assumes nothing.
 use Prim.Native.Nat.{ℕ, _+_, _≤_, _<_}
 use native.Mathlib.Omega.{arith}
 use mathlib.Core.Bool.{Bool, true, false, cond, false≢true, and-eq-true-iff}
-use mathlib.Core.List.{List, [], _∷_}
+use mathlib.Core.List.{List, [], _∷_, reverseAux, reverse}
 use mathlib.Core.Path.{_≡_, refl, sym, ap, subst⁻¹, _∙_}
 use borrow.Author.Tests.{eqb-true}
 use lib.Dec.{ltb, eqb}
@@ -14,123 +14,132 @@ use Rattle.place.specs.declared.Reply.{Reply}
 use Rattle.place.specs.declared.Reply.the-variants.{Confirm, Answer, Deny, BadAnswer}
 use Rattle.place.specs.declared.Step.{Step}
 use Rattle.place.specs.Rules.{free, opened, isOpen}
-use Rattle.place.specs.Steps.{NOTHING, CONFIRMED, ANSWERED, RESENT, FAILED, counted, becomes, denied, ticked, fits, replied}
+use Rattle.place.specs.Steps.{NOTHING, CONFIRMED, ANSWERED, RESENT, FAILED, counted, onceMore, oneOlder, becomes, denied, ticked, fits, replied}
 use Rattle.place.proofs.Kept.{holds-is, fits-holds}
 use Rattle.places.specs.Rows.{placeAt}
 use Rattle.exchange.specs.declared.Exchanges.{Exchanges}
 use Rattle.exchange.specs.Begins.{modeOf}
 use Rattle.exchange.specs.Table.{blank, made}
 use Rattle.exchange.specs.Calls.{Asked, begunBy, Call, begin, reply, tick, after, run, Sound}
-use Rattle.exchange.specs.Histories.{opens, toldOf, stepBy, Seen, isTick, seen, history, sends, since, count}
+use Rattle.exchange.specs.Logs.{Line, lineOf, loggedBy, logged, isTick, begins, tells, resends, sends, count, upTo}
+use Rattle.exchange.specs.Steps.{stepBy}
 use Rattle.exchange.proofs.Kept.{run-sound, made-sound}
 use Rattle.exchange.proofs.Steps.{each-step, taken-opened}
 
--- a place was begun, its age is the ticks since it was last sent, and its resends are those told since it was begun
-pub record Accounted (p : Place) (h : List Seen) : Type 0 where
-  pub begun : 1 ≤ count (λ e. e .begins) h
-  pub aged : p .age ≡ count (λ e. e .ticks) (since sends h)
-  pub resent : p .resends ≡ count (λ e. e .resends) (since (λ e. e .begins) h)
+-- the place at k was begun, its age is the ticks since it was last sent, and its resends are those told since it was begun; the latest line stands first
+pub record Accounted (k : ℕ) (p : Place) (h : List Line) : Type 0 where
+  pub begun : 1 ≤ count (begins k) h
+  pub aged : p .age ≡ count isTick (upTo (sends k) h)
+  pub resent : p .resends ≡ count (resends k) (upTo (begins k) h)
 
 -- so is every place that is open
-abbrev pub Accounts : Place → List Seen → Type 0
-Accounts p h = isOpen (p .mode) ≡ true → Accounted p h
+abbrev pub Accounts : ℕ → Place → List Line → Type 0
+Accounts k p h = isOpen (p .mode) ≡ true → Accounted k p h
 
-abbrev saw : Bool → Bool → Bool → Seen
-saw t b r = record { ticks = t; begins = b; resends = r }
+-- one line more: a beginning
+just-begun : (k s m : ℕ) (l : Line) (h : List Line) → begins k l ≡ true → Accounted k (opened s m) (l ∷ h)
+unfolding count upTo
+just-begun k s m l h b = record { begun = simp b (omega arith); aged = simp b; resent = simp b }
 
--- one call more, by what it was to the place
-just-begun : (s m : ℕ) (t r : Bool) (h : List Seen) → Accounted (opened s m) (saw t true r ∷ h)
-unfolding count since
-just-begun s m t r h = record { begun = omega arith; aged = refl; resent = refl }
-
-module _ (p : Place) (h : List Seen) (a : Accounted p h) where
-  as-before : Accounted p (saw false false false ∷ h)
-  unfolding count since
-  as-before = record { begun = omega (arith, a .begun); aged = omega (arith, a .aged); resent = omega (arith, a .resent) }
-
-  one-tick-older : Accounted (counted (p .resends) (p .age + 1) p) (saw true false false ∷ h)
-  unfolding count since
-  one-tick-older = record { begun = omega (arith, a .begun); aged = omega (arith, a .aged); resent = omega (arith, a .resent) }
-
-  sent-once-more : (t : Bool) → Accounted (counted (p .resends + 1) 0 p) (saw t false true ∷ h)
-  unfolding count since
-  sent-once-more t = record { begun = omega (arith, a .begun); aged = refl; resent = omega (arith, a .resent) }
-
--- by the step that a call made of it
-module _ (t r : ℕ) (p : Place) (h : List Seen) (a : Accounts p h) where
-  abbrev Stepped : Call → Step → Type 0
-  Stepped c y = Accounts (y .place) (saw (isTick c) false (eqb (y .outcome) RESENT) ∷ h)
+-- one that does not begin it, by the step that it tells
+module _ (k : ℕ) (p : Place) (h : List Line) (a : Accounts k p h) (l : Line) (u : begins k l ≡ false) where
+  abbrev Stepped : Step → Type 0
+  Stepped y = tells k l ≡ y .outcome → Accounts k (y .place) (l ∷ h)
 
   -- a free place is not open
-  freed : (c : Call) (o : ℕ) → Stepped c (becomes free o)
+  freed : (o : ℕ) → Stepped (becomes free o)
   unfolding isOpen
-  freed c o e = absurd (false≢true e)
+  freed o e q = absurd (false≢true q)
 
-  by-denial : (c : Call) → isOpen (p .mode) ≡ true → Stepped c (denied r p)
+  sent-once-more : isOpen (p .mode) ≡ true → Stepped (becomes (onceMore p) RESENT)
+  unfolding count upTo
+  sent-once-more o e q =
+      let b = a o in
+      record { begun = simp u (omega (arith, b .begun)); aged = simp (u, e); resent = simp (u, e) (omega (arith, b .resent)) }
+
+  by-denial : (r : ℕ) → isOpen (p .mode) ≡ true → Stepped (denied r p)
   unfolding denied
-  by-denial c o = by-test (ltb (p .resends) r)
+  by-denial r o = by-test (ltb (p .resends) r)
     where
-      by-test : (b : Bool) → Stepped c (cond b (becomes (counted (p .resends + 1) 0 p) RESENT) (becomes free FAILED))
-      by-test true e = sent-once-more p h (a o) (isTick c)
-      by-test false e = freed c FAILED e
+      by-test : (b : Bool) → Stepped (cond b (becomes (onceMore p) RESENT) (becomes free FAILED))
+      by-test true = sent-once-more o
+      by-test false = freed FAILED
 
-  by-reply : (s : ℕ) (w : Reply) → isOpen (p .mode) ≡ true → Stepped (reply s w) (replied r w p)
-  unfolding replied
-  by-reply s Confirm o = freed (reply s Confirm) CONFIRMED
-  by-reply s Answer o = freed (reply s Answer) ANSWERED
-  by-reply s Deny o = by-denial (reply s Deny) o
-  by-reply s BadAnswer o = by-denial (reply s BadAnswer) o
+  module _ (n : isTick l ≡ false) where
+    as-before : Stepped (becomes p NOTHING)
+    unfolding count upTo
+    as-before e o =
+        let b = a o in
+        record { begun = simp u (omega (arith, b .begun)); aged = simp (u, e, n) (omega (arith, b .aged)); resent = simp (u, e) (omega (arith, b .resent)) }
 
-  by-call : (c : Call) → Stepped c (stepBy t r p c)
-  unfolding stepBy ticked
-  by-call (begin b) = λ o. as-before p h (a o)
-  by-call (reply s w) = by-fit (fits s w p) refl
-    where
-      by-fit : (b : Bool) → fits s w p ≡ b → Stepped (reply s w) (cond b (replied r w p) (becomes p NOTHING))
-      by-fit true e = by-reply s w (holds-is s p (fits-holds s w p e) .0)
-      by-fit false e = λ o. as-before p h (a o)
-  by-call tick = by-mode (isOpen (p .mode)) refl (ltb (p .age + 1) t)
+    by-fitting : (r : ℕ) (w : Reply) → isOpen (p .mode) ≡ true → Stepped (replied r w p)
+    unfolding replied
+    by-fitting r Confirm o = freed CONFIRMED
+    by-fitting r Answer o = freed ANSWERED
+    by-fitting r Deny o = by-denial r o
+    by-fitting r BadAnswer o = by-denial r o
+
+    by-reply : (r s : ℕ) (w : Reply) → Stepped (cond (fits s w p) (replied r w p) (becomes p NOTHING))
+    by-reply r s w = by-fit (fits s w p) refl
+      where
+        by-fit : (b : Bool) → fits s w p ≡ b → Stepped (cond b (replied r w p) (becomes p NOTHING))
+        by-fit true e = by-fitting r w (holds-is s p (fits-holds s w p e) .0)
+        by-fit false e = as-before
+
+  by-tick : (t r : ℕ) → isTick l ≡ true → Stepped (ticked t r p)
+  unfolding ticked count upTo
+  by-tick t r n = by-mode (isOpen (p .mode)) refl (ltb (p .age + 1) t)
     where
       by-mode : (o : Bool) → isOpen (p .mode) ≡ o → (b : Bool)
-          → Stepped tick (cond o (cond b (becomes (counted (p .resends) (p .age + 1) p) NOTHING) (denied r p)) (becomes p NOTHING))
-      by-mode true o true = λ e. one-tick-older p h (a o)
-      by-mode true o false = by-denial tick o
-      by-mode false o b = λ e. absurd (false≢true (sym o ∙ e))
+          → Stepped (cond o (cond b (becomes (oneOlder p) NOTHING) (denied r p)) (becomes p NOTHING))
+      by-mode true o true = λ e q.
+          let b = a o in
+          record { begun = simp u (omega (arith, b .begun)); aged = simp (u, e, n) (omega (arith, b .aged)); resent = simp (u, e) (omega (arith, b .resent)) }
+      by-mode true o false = by-denial r o
+      by-mode false o b = λ e q. absurd (false≢true (sym o ∙ q))
 
 module _ (k : ℕ) (here : k < 16) where
   -- by a call on the table
-  module _ (x : Exchanges) (sound : Sound x) (h : List Seen) (a : Accounts (placeAt (x .places) k) h) where
-    -- the place and what it has then seen, where b says whether the call opens it
-    abbrev Next : Call → Bool → Type 0
-    Next c b = Accounts (placeAt (after x c .places) k) (saw (isTick c) b (eqb (toldOf x c k) RESENT) ∷ h)
+  module _ (x : Exchanges) (sound : Sound x) (h : List Line) (a : Accounts k (placeAt (x .places) k) h) where
+    abbrev Next : Call → Type 0
+    Next c = Accounts k (placeAt (after x c .places) k) (lineOf x c ∷ h)
 
-    opened-now : (a : Asked) → opens x (begin a) k ≡ true → Next (begin a) true
-    unfolding opens after
-    opened-now a o e =
-        let g = and-eq-true-iff (isGood (begunBy x a .verdict)) (eqb k (begunBy x a .place)) .0 o in
-        let is : placeAt (begunBy x a .state .places) k ≡ opened (begunBy x a .serial) (modeOf (a .draft .command)) =
-        ap (placeAt (begunBy x a .state .places)) (eqb-true k (begunBy x a .place) (g .1)) ∙ taken-opened x sound a (g .0) in
-        subst⁻¹ (λ (q : Place). Accounted q (saw false true (eqb (toldOf x (begin a) k) RESENT) ∷ h)) is
-        (just-begun (begunBy x a .serial) (modeOf (a .draft .command)) false (eqb (toldOf x (begin a) k) RESENT) h)
+    opened-now : (b : Asked) → begins k (lineOf x (begin b)) ≡ true → Next (begin b)
+    unfolding begins lineOf after
+    opened-now b o e =
+        let g = and-eq-true-iff (isGood (begunBy x b .verdict)) (eqb k (begunBy x b .place)) .0 o in
+        let is : placeAt (begunBy x b .state .places) k ≡ opened (begunBy x b .serial) (modeOf (b .draft .command)) =
+        ap (placeAt (begunBy x b .state .places)) (eqb-true k (begunBy x b .place) (g .1)) ∙ taken-opened x sound b (g .0) in
+        subst⁻¹ (λ (q : Place). Accounted k q (lineOf x (begin b) ∷ h)) is
+        (just-begun k (begunBy x b .serial) (modeOf (b .draft .command)) (lineOf x (begin b)) h o)
 
-    one-call : (c : Call) → Accounts (placeAt (after x c .places) k) (seen x c k ∷ h)
-    unfolding seen opens
-    one-call c = by-test c (opens x c k) refl
+    abbrev p : Place
+    p = placeAt (x .places) k
+
+    -- a call that does not begin it, by the rule for one place
+    by-step : (c : Call) (u : begins k (lineOf x c) ≡ false) → Stepped k p h a (lineOf x c) u (stepBy (x .timeout) (x .resends) p c) → Next c
+    by-step c u stepped =
+        let e = each-step x sound k here c u in
+        subst⁻¹ (λ (q : Place). Accounts k q (lineOf x c ∷ h)) (ap (λ (y : Step). y .place) e) (stepped (ap (λ (y : Step). y .outcome) e))
+
+    one-call : (c : Call) → Next c
+    unfolding begins lineOf stepBy isTick
+    one-call c = by-test c (begins k (lineOf x c)) refl
       where
-        by-test : (c : Call) (b : Bool) → opens x c k ≡ b → Next c b
-        by-test c false o =
-            subst⁻¹ (Stepped (x .timeout) (x .resends) (placeAt (x .places) k) h a c) (each-step x sound k here c o)
-            (by-call (x .timeout) (x .resends) (placeAt (x .places) k) h a c)
-        by-test (begin a) true o = opened-now a o
-        by-test (reply s w) true o = absurd (false≢true o)
-        by-test tick true o = absurd (false≢true o)
+        by-test : (c : Call) (b : Bool) → begins k (lineOf x c) ≡ b → Next c
+        by-test (begin b) true u = opened-now b u
+        by-test (reply s w) true u = absurd (false≢true u)
+        by-test tick true u = absurd (false≢true u)
+        by-test (begin b) false u = by-step (begin b) u (as-before k p h a (lineOf x (begin b)) u refl)
+        by-test (reply s w) false u = by-step (reply s w) u (by-reply k p h a (lineOf x (reply s w)) u refl (x .resends) s w)
+        by-test tick false u = by-step tick u (by-tick k p h a (lineOf x tick) u (x .timeout) (x .resends) refl)
 
   -- over any sequence of calls
-  pub accounts-run : (x : Exchanges) → Sound x → (h : List Seen) → Accounts (placeAt (x .places) k) h → (cs : List Call)
-      → Accounts (placeAt (run x cs .places) k) (history k x cs h)
-  unfolding run history
+  pub accounts-run : (x : Exchanges) → Sound x → (h : List Line) → Accounts k (placeAt (x .places) k) h → (cs : List Call)
+      → Accounts k (placeAt (run x cs .places) k) (reverseAux (logged x cs) h)
+  unfolding run loggedBy
   accounts-run x sound h a [] = a
-  accounts-run x sound h a (c ∷ cs) = accounts-run (after x c) (run-sound x sound (c ∷ [])) (seen x c k ∷ h) (one-call x sound h a c) cs
+  accounts-run x sound h a (c ∷ cs) = accounts-run (after x c) (run-sound x sound (c ∷ [])) (lineOf x c ∷ h) (one-call x sound h a c) cs
 
   -- in a fresh table no place is open
   none-open : (t r : ℕ) → placeAt (made t r .state .places) k ≡ free
@@ -141,8 +150,9 @@ module _ (k : ℕ) (here : k < 16) where
       by-test true = getD-replicate 16 k free free here
       by-test false = getD-replicate 16 k free free here
 
-  pub accounted : (t r : ℕ) → isGood (made t r .verdict) ≡ true → (cs : List Call) → Accounts (placeAt (run (made t r .state) cs .places) k) (history k (made t r .state) cs [])
+  pub accounted : (t r : ℕ) → isGood (made t r .verdict) ≡ true → (cs : List Call)
+      → Accounts k (placeAt (run (made t r .state) cs .places) k) (reverse (logged (made t r .state) cs))
   unfolding isOpen
   accounted t r g =
       accounts-run (made t r .state) (made-sound t r g) []
-      (subst⁻¹ (λ (p : Place). Accounts p []) (none-open t r) (λ e. absurd (false≢true e)))
+      (subst⁻¹ (λ (p : Place). Accounts k p []) (none-open t r) (λ e. absurd (false≢true e)))

@@ -7,6 +7,8 @@ pub mod Steps
 pub mod Taking
 pub mod Denials
 pub mod Histories
+pub mod Turns
+pub mod Lives
 pub mod Before
 pub mod Written
 pub mod Examples

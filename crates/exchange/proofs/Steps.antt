@@ -23,7 +23,8 @@ use Rattle.exchange.specs.declared.Ticked.{Ticked}
 use Rattle.exchange.specs.Begins.{modeOf}
 use Rattle.exchange.specs.Table.{stepped, answered, ticking}
 use Rattle.exchange.specs.Calls.{Asked, begunBy, Call, begin, reply, tick, after, Sound}
-use Rattle.exchange.specs.Histories.{opens, toldOf, stepBy}
+use Rattle.exchange.specs.Logs.{lineOf, begins, tells}
+use Rattle.exchange.specs.Steps.{stepBy}
 use Rattle.exchange.proofs.Answers.{answered-stray, answered-good, ticking-good}
 use Rattle.exchange.proofs.Kept.{rules-of, fitting-fits}
 use Rattle.exchange.proofs.Changes.{begin-refused, begin-others, begun-state, begun-inside, tick-each, tick-tells}
@@ -84,8 +85,8 @@ module _ (x : Exchanges) (sound : Sound x) (k : ℕ) (here : k < 16) where
       let g : isGood (ticking x .verdict) ≡ true = ap (λ (y : Ticked). isGood (y .verdict)) (ticking-good x (sound .kept)) in
       λ i. becomes (tick-each x g k i) (tick-tells x g k i .outcome)
 
-  begin-step : (a : Asked) → opens x (begin a) k ≡ false → placeAt (begunBy x a .state .places) k ≡ placeAt (x .places) k
-  unfolding opens
+  begin-step : (a : Asked) → begins k (lineOf x (begin a)) ≡ false → placeAt (begunBy x a .state .places) k ≡ placeAt (x .places) k
+  unfolding begins lineOf
   begin-step a e = by-test (isGood (begunBy x a .verdict)) refl
     where
       by-test : (b : Bool) → isGood (begunBy x a .verdict) ≡ b → placeAt (begunBy x a .state .places) k ≡ placeAt (x .places) k
@@ -93,9 +94,9 @@ module _ (x : Exchanges) (sound : Sound x) (k : ℕ) (here : k < 16) where
       by-test true g = begin-others x a g k (eqb-false k (begunBy x a .place) (simp g at e))
 
   -- the place and what is told of it, after a call that does not open it
-  pub each-step : (c : Call) → opens x c k ≡ false
-      → becomes (placeAt (after x c .places) k) (toldOf x c k) ≡ stepBy (x .timeout) (x .resends) (placeAt (x .places) k) c
-  unfolding after toldOf stepBy
+  pub each-step : (c : Call) → begins k (lineOf x c) ≡ false
+      → becomes (placeAt (after x c .places) k) (tells k (lineOf x c)) ≡ stepBy (x .timeout) (x .resends) (placeAt (x .places) k) c
+  unfolding after tells lineOf stepBy
   each-step (begin a) e = ap (λ (q : Place). becomes q NOTHING) (begin-step a e)
   each-step (reply s w) e = reply-step s w
   each-step tick e = tick-step
@@ -103,13 +104,13 @@ module _ (x : Exchanges) (sound : Sound x) (k : ℕ) (here : k < 16) where
   -- of a reply: the place that it fits, and one that it does not
   module _ (s : ℕ) (w : Reply) where
     pub reply-fits : fits s w (placeAt (x .places) k) ≡ true
-        → becomes (placeAt (answered x s w .state .places) k) (toldOf x (reply s w) k) ≡ replied (x .resends) w (placeAt (x .places) k)
-    unfolding after opens stepBy
+        → becomes (placeAt (answered x s w .state .places) k) (tells k (lineOf x (reply s w))) ≡ replied (x .resends) w (placeAt (x .places) k)
+    unfolding after begins lineOf stepBy
     reply-fits e = each-step (reply s w) refl ∙ simp e
 
     pub reply-passes : fits s w (placeAt (x .places) k) ≡ false
-        → becomes (placeAt (answered x s w .state .places) k) (toldOf x (reply s w) k) ≡ becomes (placeAt (x .places) k) NOTHING
-    unfolding after opens stepBy
+        → becomes (placeAt (answered x s w .state .places) k) (tells k (lineOf x (reply s w))) ≡ becomes (placeAt (x .places) k) NOTHING
+    unfolding after begins lineOf stepBy
     reply-passes e = each-step (reply s w) refl ∙ simp e
 
 -- the place that a beginning takes

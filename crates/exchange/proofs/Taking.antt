@@ -1,17 +1,20 @@
 -- When a call is taken and when it is refused: STATE on a table that breaks the rules, on one that keeps them FULL or STRAY. Assumes nothing.
 use Prim.Native.Nat.{ℕ, _<_}
 use native.Mathlib.Omega.{arith}
-use mathlib.Core.Bool.{Bool, true, false, true≢false}
+use mathlib.Core.Bool.{Bool, true, false, not, cond, true≢false}
 use mathlib.Core.Path.{_≡_, refl, sym, ap, _∙_}
 use borrow.Author.Tests.{ltb-true, ltb-false}
-use lib.Dec.{ltb}
+use lib.Dec.{ltb, eqb}
 use Rattle.octets.proofs.Searches.{first-none, first-absent}
 use Rattle.kinds.specs.Table.{rows}
 use Rattle.verdict.specs.Refusals.{STATE, FULL, STRAY}
 use Rattle.verdict.specs.Orders.{good, refusal, isGood}
+use Rattle.place.specs.declared.Place.{Place}
 use Rattle.place.specs.declared.Reply.{Reply}
+use Rattle.place.specs.declared.Step.{Step}
 use Rattle.place.specs.Rules.{isOpen}
-use Rattle.place.specs.Steps.{NOTHING}
+use Rattle.place.specs.Steps.{NOTHING, becomes, replied}
+use Rattle.place.proofs.Lives.{replied-speaks}
 use Rattle.places.specs.Rows.{placeAt, freeAt, lowestFree, fitsAt, fitting}
 use Rattle.exchange.specs.declared.Exchanges.{Exchanges}
 use Rattle.exchange.specs.declared.Found.{Found}
@@ -20,9 +23,11 @@ use Rattle.exchange.specs.declared.Ticked.{Ticked}
 use Rattle.exchange.specs.Begins.{draftVerdict, unbegun}
 use Rattle.exchange.specs.Table.{legal, answered, ticking}
 use Rattle.exchange.specs.Calls.{Asked, begunBy, Call, begin, reply, tick, verdictOf, Sound}
+use Rattle.exchange.specs.Logs.{lineOf, begins, answers}
+use Rattle.exchange.specs.Steps.{stepBy}
 use Rattle.exchange.proofs.Answers.{found-state, found-full, found-good, answered-state, answered-stray, answered-good, ticking-state, ticking-good}
 use Rattle.exchange.proofs.Begins.{find-decides, draft-decides, begun-refused, begun-verdict}
-use Rattle.exchange.proofs.Steps.{fitting-is}
+use Rattle.exchange.proofs.Steps.{fitting-is, each-step}
 
 module _ (x : Exchanges) (sound : Sound x) where
   -- a beginning, where any place is free and where none is
@@ -65,6 +70,18 @@ module _ (x : Exchanges) (sound : Sound x) where
     reply-stray none =
         let end : fitting (x .places) 0 16 s w ≡ 16 = first-absent (fitsAt (x .places) s w) 0 16 (λ k l u. none k u) in
         answered-stray x s w (sound .kept) (omega (arith, end))
+
+    -- so its line tells something of a place exactly where it fits it
+    pub answers-fitting : (k : ℕ) → k < 16 → answers k (lineOf x (reply s w)) ≡ fitsAt (x .places) s w k
+    unfolding answers lineOf begins stepBy
+    answers-fitting k h = ap (λ (y : Step). not (eqb (y .outcome) NOTHING)) (each-step x sound k h (reply s w) refl) ∙ by-fit (fitsAt (x .places) s w k)
+      where
+        p : Place
+        p = placeAt (x .places) k
+
+        by-fit : (b : Bool) → not (eqb (cond b (replied (x .resends) w p) (becomes p NOTHING) .outcome) NOTHING) ≡ b
+        by-fit true = ap not (replied-speaks (x .resends) p w)
+        by-fit false = refl
 
   -- a tick, always
   pub tick-taken : ticking x .verdict ≡ good

@@ -2,4 +2,6 @@ pub mod Table
 pub mod Begins
 pub mod Before
 pub mod Calls
-pub mod Histories
+pub mod Steps
+pub mod Logs
+pub mod Lives

@@ -11,7 +11,7 @@ use Rattle.place.specs.declared.Reply.{Reply}
 use Rattle.place.specs.declared.Reply.the-variants.{Confirm, Answer, Deny, BadAnswer}
 use Rattle.place.specs.declared.Step.{Step}
 use Rattle.place.specs.Rules.{free, isOpen, isZero, keeps}
-use Rattle.place.specs.Steps.{NOTHING, CONFIRMED, ANSWERED, RESENT, FAILED, becomes, counted, denied, ticked, replied}
+use Rattle.place.specs.Steps.{NOTHING, CONFIRMED, ANSWERED, RESENT, FAILED, becomes, onceMore, oneOlder, denied, ticked, replied}
 
 module _ (p : Place) where
   -- all zero, of the numbers as one
@@ -52,7 +52,7 @@ module _ (p : Place) where
       unfolding ticked
       no-tick n = simp (off told n)
 
-      pub older : not o ≡ false → p .age + 1 < t → becomes (counted (p .resends) (p .age + 1) p) NOTHING ≡ ticked t r p
+      pub older : not o ≡ false → p .age + 1 < t → becomes (oneOlder p) NOTHING ≡ ticked t r p
       unfolding ticked
       older n h = simp (on told n, lt-ltb _ _ h)
 
@@ -62,7 +62,7 @@ module _ (p : Place) where
 
   -- denied
   module _ (r : ℕ) where
-    pub sent-again : p .resends < r → becomes (counted (p .resends + 1) 0 p) RESENT ≡ denied r p
+    pub sent-again : p .resends < r → becomes (onceMore p) RESENT ≡ denied r p
     unfolding denied
     sent-again h = simp (lt-ltb _ _ h)
 

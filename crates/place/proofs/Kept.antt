@@ -10,7 +10,7 @@ use Rattle.place.specs.declared.Place.{Place}
 use Rattle.place.specs.declared.Reply.{Reply}
 use Rattle.place.specs.declared.Reply.the-variants.{Confirm, Answer, Deny, BadAnswer}
 use Rattle.place.specs.Rules.{REQUEST, free, isOpen, isZero, holds, keeps}
-use Rattle.place.specs.Steps.{NOTHING, RESENT, FAILED, counted, becomes, denied, ticked, awaits, fits, replied}
+use Rattle.place.specs.Steps.{NOTHING, RESENT, FAILED, onceMore, oneOlder, becomes, denied, ticked, awaits, fits, replied}
 
 -- a place that holds a serial is open, and the serial is its own
 pub holds-is : (s : ℕ) (p : Place) → holds s p ≡ true → (isOpen (p .mode) ≡ true) × (p .serial ≡ s)
@@ -42,19 +42,14 @@ pub free-holds : (s : ℕ) → holds s free ≡ false
 unfolding holds isOpen
 free-holds s = refl
 
--- counts do not touch the serial
-pub counted-holds : (s n a : ℕ) (p : Place) → holds s (counted n a p) ≡ holds s p
-unfolding holds
-counted-holds s n a p = refl
-
 -- what is open after a step was open before it, under the same serial
 module _ (s r : ℕ) (p : Place) where
   pub denied-holds : holds s (denied r p .place) ≡ true → holds s p ≡ true
-  unfolding denied
+  unfolding denied holds
   denied-holds = by-test (ltb (p .resends) r)
     where
-      by-test : (b : Bool) → holds s (cond b (becomes (counted (p .resends + 1) 0 p) RESENT) (becomes free FAILED) .place) ≡ true → holds s p ≡ true
-      by-test true h = sym (counted-holds s (p .resends + 1) 0 p) ∙ h
+      by-test : (b : Bool) → holds s (cond b (becomes (onceMore p) RESENT) (becomes free FAILED) .place) ≡ true → holds s p ≡ true
+      by-test true h = h
       by-test false h = absurd (false≢true (sym (free-holds s) ∙ h))
 
   pub replied-holds : (w : Reply) → holds s (replied r w p .place) ≡ true → holds s p ≡ true
@@ -65,13 +60,13 @@ module _ (s r : ℕ) (p : Place) where
   replied-holds BadAnswer h = denied-holds h
 
   pub ticked-holds : (t : ℕ) → holds s (ticked t r p .place) ≡ true → holds s p ≡ true
-  unfolding ticked
+  unfolding ticked holds
   ticked-holds t = by-test (isOpen (p .mode)) (ltb (p .age + 1) t)
     where
       by-test : (o b : Bool)
-          → holds s (cond o (cond b (becomes (counted (p .resends) (p .age + 1) p) NOTHING) (denied r p)) (becomes p NOTHING) .place) ≡ true
+          → holds s (cond o (cond b (becomes (oneOlder p) NOTHING) (denied r p)) (becomes p NOTHING) .place) ≡ true
           → holds s p ≡ true
-      by-test true true h = sym (counted-holds s (p .resends) (p .age + 1) p) ∙ h
+      by-test true true h = h
       by-test true false h = denied-holds h
       by-test false b h = h
 
@@ -119,10 +114,10 @@ module _ (t r : ℕ) (p : Place) (some : 1 ≤ t) where
   denied-keeps o = by-test (ltb (p .resends) r) refl
     where
       by-test : (b : Bool) → ltb (p .resends) r ≡ b
-          → keeps t r (cond b (becomes (counted (p .resends + 1) 0 p) RESENT) (becomes free FAILED) .place) ≡ true
+          → keeps t r (cond b (becomes (onceMore p) RESENT) (becomes free FAILED) .place) ≡ true
       by-test true e =
           let h = ltb-true (p .resends) r e in
-          open-keeps t r (counted (p .resends + 1) 0 p) o (omega arith) (omega arith)
+          open-keeps t r (onceMore p) o (omega arith) (omega arith)
       by-test false e = free-keeps t r
 
   pub replied-keeps : (w : Reply) → isOpen (p .mode) ≡ true → keeps t r (replied r w p .place) ≡ true
@@ -137,8 +132,8 @@ module _ (t r : ℕ) (p : Place) (some : 1 ≤ t) where
   ticked-keeps k = by-test (isOpen (p .mode)) refl (ltb (p .age + 1) t) refl
     where
       by-test : (o : Bool) → isOpen (p .mode) ≡ o → (b : Bool) → ltb (p .age + 1) t ≡ b
-          → keeps t r (cond o (cond b (becomes (counted (p .resends) (p .age + 1) p) NOTHING) (denied r p)) (becomes p NOTHING) .place) ≡ true
+          → keeps t r (cond o (cond b (becomes (oneOlder p) NOTHING) (denied r p)) (becomes p NOTHING) .place) ≡ true
       by-test true o true e =
-          open-keeps t r (counted (p .resends) (p .age + 1) p) o (ltb-true (p .age + 1) t e) (open-kept t r p o k .1)
+          open-keeps t r (oneOlder p) o (omega (arith, ltb-true (p .age + 1) t e)) (open-kept t r p o k .1)
       by-test true o false e = denied-keeps o
       by-test false o b e = k

@@ -1,7 +1,7 @@
 -- What becomes of one place (document 01, "Open exchanges"; 001, 6.5), and what is told of it.
 -- Assumes nothing.
 use Prim.Native.Nat.{ℕ, _+_}
-use mathlib.Core.Bool.{Bool, _&&_, cond}
+use mathlib.Core.Bool.{Bool, _&&_, _||_, cond}
 use mathlib.Core.List.{List, [], _∷_}
 use lib.Dec.{ltb, eqb}
 use Rattle.place.specs.declared.Place.{Place}
@@ -29,22 +29,36 @@ FAILED = 43
 abbrev pub outcomes : List ℕ
 outcomes = NOTHING ∷ CONFIRMED ∷ ANSWERED ∷ RESENT ∷ FAILED ∷ []
 
+-- "each exchange begun ends once, confirmed, answered or failed" (document 02, Q-10): the outcomes by which it ends, and those by which it goes on
+unfoldable pub isEnd : ℕ → Bool
+isEnd o = eqb o CONFIRMED || eqb o ANSWERED || eqb o FAILED
+
+unfoldable pub goesOn : ℕ → Bool
+goesOn o = eqb o NOTHING || eqb o RESENT
+
 -- a place with other counts
 abbrev pub counted : ℕ → ℕ → Place → Place
 counted n a p = record { serial = p .serial; mode = p .mode; resends = n; age = a }
+
+-- "one resend more and age 0", and "A tick adds 1 to each age"
+abbrev pub onceMore : Place → Place
+onceMore p = counted (p .resends + 1) 0 p
+
+abbrev pub oneOlder : Place → Place
+oneOlder p = counted (p .resends) (p .age + 1) p
 
 abbrev pub becomes : Place → ℕ → Step
 becomes p o = record { place = p; outcome = o }
 
 -- "with fewer than R resends it is resent, one resend more and age 0, else it has failed and is freed"
 unfoldable pub denied : ℕ → Place → Step
-denied r p = cond (ltb (p .resends) r) (becomes (counted (p .resends + 1) 0 p) RESENT) (becomes free FAILED)
+denied r p = cond (ltb (p .resends) r) (becomes (onceMore p) RESENT) (becomes free FAILED)
 
 -- "A tick adds 1 to each age; reaching T acts as deny": the age of an open place
 unfoldable pub ticked : ℕ → ℕ → Place → Step
 ticked t r p =
     cond (isOpen (p .mode))
-    (cond (ltb (p .age + 1) t) (becomes (counted (p .resends) (p .age + 1) p) NOTHING) (denied r p))
+    (cond (ltb (p .age + 1) t) (becomes (oneOlder p) NOTHING) (denied r p))
     (becomes p NOTHING)
 
 -- "Confirm fits a send .., answer a request .. Deny fits either, a bad answer .. fits a request"

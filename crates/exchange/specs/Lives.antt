@@ -1,0 +1,47 @@
+-- "An exchange always ends" (document 02, Q-10): an exchange in a log, and its life in the lines after its beginning. Assumes nothing.
+use Prim.Native.Nat.{ℕ, _<_}
+use mathlib.Core.Bool.{Bool, true, not, cond}
+use mathlib.Core.List.{List, [], _∷_, _++_}
+use mathlib.Core.Path.{_≡_}
+use Rattle.place.specs.Steps.{FAILED, isEnd, goesOn}
+use Rattle.verdict.specs.declared.Verdict.{Verdict}
+use Rattle.verdict.specs.Orders.{isGood}
+use Rattle.exchange.specs.Logs.{Line, of-begin, isTick, begins, tells, speaks, resends, count, upTo}
+
+-- "each exchange begun": the line of a beginning that was taken, with what stands before and after it
+pub record Exchange (log : List Line) : Type 0 where
+  pub before : List Line
+  pub verdict : Verdict
+  pub place : ℕ
+  pub serial : ℕ
+  pub after : List Line
+  pub written : log ≡ before ++ (of-begin verdict place serial ∷ after)
+  pub taken : isGood verdict ≡ true
+
+-- whether a line ends the exchange at a place: it tells of it something else than nothing or a resend
+unfoldable pub ends : ℕ → Line → Bool
+ends k l = not (goesOn (tells k l))
+
+-- the life of the exchange at a place, in the lines after its beginning: up to the one that ends it, that one among them
+unfoldable pub life : ℕ → List Line → List Line
+life k [] = []
+life k (l ∷ ls) = l ∷ cond (ends k l) [] (life k ls)
+
+-- "ends once, confirmed, answered or failed": the line that ends it is one of these, and in those after it nothing is told of its place before another
+-- beginning takes it; fewer than n ticks came while it was open
+pub record Ended (n k : ℕ) (ls : List Line) : Type 0 where
+  pub last : Line
+  pub later : List Line
+  pub split : ls ≡ upTo (ends k) ls ++ (last ∷ later)
+  pub whole : life k ls ≡ upTo (ends k) ls ++ (last ∷ [])
+  pub is-end : isEnd (tells k last) ≡ true
+  pub in-time : count isTick (upTo (ends k) ls) < n
+  pub silent : count (speaks k) (upTo (begins k) later) ≡ 0
+
+-- an exchange that failed at the n-th tick after its beginning, m resends made
+pub record Failed (n m k : ℕ) (ls : List Line) : Type 0 where
+  pub ended : Ended n k ls
+  pub failed : tells k (ended .last) ≡ FAILED
+  pub by-tick : isTick (ended .last) ≡ true
+  pub at-tick : count isTick (life k ls) ≡ n
+  pub resent : count (resends k) (life k ls) ≡ m
