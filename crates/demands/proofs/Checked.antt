@@ -1,14 +1,16 @@
 -- Document 01, "Checked examples": A, B and 1 to 10, and the cases of document 02's requests that landed, as one table under one theorem, each answer
 -- in numbers under their names. Assumes nothing.
-use Prim.Native.Nat.{ℕ, zero, suc}
+use Prim.Native.Nat.{ℕ, zero, suc, _+_}
 use Prim.Native.String.{String}
 use mathlib.Core.List.{List, [], _∷_, _++_, map}
 use mathlib.Core.Path.{_≡_, refl}
 use lib.ListN.{length, set, take, drop, replicate}
 use Rattle.exchange.specs.declared.Exchanges.{Exchanges}
 use Rattle.exchange.specs.Begins.{modeOf, begunVerdict, begun, begunOutput}
-use Rattle.exchange.specs.Calls.{Asked, begunBy}
-use Rattle.exchange.specs.Table.{legal, made, found, ticking}
+use Rattle.exchange.specs.Calls.{Asked, begunBy, Call, begin, reply, tick, after}
+use Rattle.exchange.specs.Lives.{ends, life}
+use Rattle.exchange.specs.Logs.{Line, lineOf, loggedBy, tells, resends, count}
+use Rattle.exchange.specs.Table.{legal, made, found, answered, ticking}
 use Rattle.exchange.proofs.Examples.{draft, asked}
 use Rattle.frame.specs.Frame.{room, unitLength, sumOf, ended, summed}
 use Rattle.kinds.specs.Table.{table, rowsOf, rows, findRow}
@@ -28,16 +30,18 @@ use Rattle.packet.specs.Frames.{unitOf, judgedContent, judgedPacket, unitPlace}
 use Rattle.packet.specs.Headers.{openedPacket}
 use Rattle.packet.proofs.Examples.{B}
 use Rattle.place.specs.declared.Place.{Place}
+use Rattle.place.specs.declared.Reply.the-variants.{Deny}
 use Rattle.place.specs.Rules.{FREE, SEND, REQUEST, opened as place, isOpen, isZero, holds, keeps}
-use Rattle.place.specs.Steps.{NOTHING, RESENT, FAILED, denied, ticked}
+use Rattle.place.specs.Steps.{NOTHING, RESENT, FAILED, goesOn, denied, ticked, fits, replied}
 use Rattle.places.specs.declared.Report.{Report}
-use Rattle.places.specs.Rows.{lowestFree, isOpenAs, twice, allKeep, areSound, serialFor, swept}
+use Rattle.places.specs.Rows.{lowestFree, isOpenAs, twice, allKeep, areSound, serialFor, fitting, swept}
 use Rattle.reading.specs.Values.{MORE, PACKET, told, packetOf}
 use Rattle.reading.specs.Standing.{whenThere, judgedFrame, started, stands}
 use Rattle.reading.specs.Finding.{onward, more, noise, hit, found as foundIn, first, Heard, Reading, readOn, reading}
 use Rattle.reading.specs.Calls.{State, Answer, padTo, heldBytes, sound, answerBy, called, fresh}
 use Rattle.reply.specs.declared.Due.the-variants.{Confirm}
 use Rattle.reply.specs.Replies.{commandFor}
+use Rattle.taking.specs.Boxes.{own, boxLine, boxAfter, boxLog}
 use Rattle.unit.specs.declared.Carrier.the-variants.{Any}
 use Rattle.unit.specs.Objects.{textSize, endOf, walk, timely}
 use Rattle.unit.specs.Units.{judgedUnit, judgedUnder}
@@ -164,6 +168,16 @@ ofTheFirst outcome = outcome ∷ replicate 15 NOTHING
 abbrev modes : Exchanges → List ℕ
 modes x = map (λ (p : Place). p .mode) (x .places)
 
+-- what is told of the first exchange of a table of these T and R, call by call, up to the call that ends it; and how often it is sent
+abbrev its : ℕ → ℕ → List Call → List Line
+its t r cs = life 0 (drop 1 (boxLog (made t r .state) (map own (begin send ∷ cs))))
+
+abbrev told-of : ℕ → ℕ → List Call → List ℕ
+told-of t r cs = map (tells 0) (its t r cs)
+
+abbrev sendings : ℕ → ℕ → List Call → ℕ
+sendings t r cs = 1 + count (resends 0) (its t r cs)
+
 -- what is said, and what the documents say
 abbrev pub checked : List (List ℕ × List ℕ)
 checked =
@@ -228,6 +242,15 @@ checked =
     -- a request is open
     ∷ (begins (fromSerial 6) request, of good ++ 0 ∷ 34 ∷ 6 ∷ 7 ∷ [])
     ∷ (modes (begunBy (fromSerial 6) request .state), REQUEST ∷ replicate 15 FREE)
+    -- Document 02, Q-10: T 10, R 9, ticks only: failed at tick 100 after 10 sendings
+    ∷ (told-of 10 9 (replicate 101 tick), repeated 9 (replicate 9 NOTHING ++ RESENT ∷ []) ++ (replicate 9 NOTHING ++ FAILED ∷ []))
+    ∷ (length (its 10 9 (replicate 101 tick)) ∷ sendings 10 9 (replicate 101 tick) ∷ [], 100 ∷ 10 ∷ [])
+    -- T 3, R 1, tick, tick, deny, tick, tick, tick: resent at the deny, failed at the fifth tick
+    ∷ (told-of 3 1 (tick ∷ tick ∷ reply 0 Deny ∷ tick ∷ tick ∷ tick ∷ tick ∷ []), NOTHING ∷ NOTHING ∷ RESENT ∷ NOTHING ∷ NOTHING ∷ FAILED ∷ [])
+    -- T 1, R 0: failed at the first tick
+    ∷ (told-of 1 0 (tick ∷ tick ∷ []), FAILED ∷ [])
+    -- a deny at each call with R 9: failed at the tenth
+    ∷ (told-of 10 9 (replicate 11 (reply 0 Deny)), replicate 9 RESENT ++ FAILED ∷ [])
     ∷ []
 
 pub checked-so : map (λ (e : List ℕ × List ℕ). e .0) checked ≡ map (λ (e : List ℕ × List ℕ). e .1) checked
@@ -235,5 +258,6 @@ unfolding openedPacket unitPlace partBy judgedPacket judgedContent judgedUnder j
     inRanges firstFit anyFits lowFirst part total called answerBy sound every padTo first foundIn more noise hit onward stands reading readOn
     started judgedFrame summed ended unitLength whenThere room told packetOf made found begun begunVerdict begunOutput modeOf packetVerdict writtenPacket
     packetBytes headBytes bytesOf putAt ticking legal lowestFree isOpenAs twice allKeep areSound serialFor swept isOpen isZero holds keeps denied ticked
-    eventLine packetLine shortLine lastLine line decimal decimalIn letters lettersIn
+    eventLine packetLine shortLine lastLine line decimal decimalIn letters lettersIn loggedBy boxLine boxAfter lineOf after answered fitting fits replied tells
+    goesOn ends life count
 checked-so = refl

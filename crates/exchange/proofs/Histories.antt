@@ -142,7 +142,7 @@ module _ (k : ℕ) (here : k < 16) where
   accounts-run x sound h a (c ∷ cs) = accounts-run (after x c) (run-sound x sound (c ∷ [])) (lineOf x c ∷ h) (one-call x sound h a c) cs
 
   -- in a fresh table no place is open
-  none-open : (t r : ℕ) → placeAt (made t r .state .places) k ≡ free
+  pub none-open : (t r : ℕ) → placeAt (made t r .state .places) k ≡ free
   unfolding made
   none-open t r = by-test (isGood (made t r .verdict))
     where
