@@ -26,7 +26,7 @@ extern "C" {
 #endif
 
 /* The release that this header is of; trawnosz_release tells that of the archive. */
-#define TRAWNOSZ_RELEASE "1.1"
+#define TRAWNOSZ_RELEASE "1.2"
 
 /* Sizes and limits. */
 enum {
@@ -372,7 +372,12 @@ trawnosz_verdict trawnosz_write_object(uint8_t *unit, size_t unit_length, size_t
 /* Writes a unit of type 26 to the front of `out`, 3 bytes and the text. Refuses LENGTH (text over 255), ROOM. */
 trawnosz_verdict trawnosz_write_text(uint8_t *out, size_t out_length, const uint8_t *text, size_t text_length);
 
-/* ---- The exchange table, by value: each call hands the new table back in `state`. ---- */
+/* ---- The exchange table, by value: each call hands the new table back in `state`. ----
+ *
+ * From a table that was made and not refused, each call given the table that the one before handed back, whatever the calls
+ * are: each exchange that was begun ends once, CONFIRMED, ANSWERED or FAILED, no later than the (R + 1) * T-th tick after its
+ * beginning, with at most R times RESENT before; till then its place and its serial are given to no other, and after that
+ * nothing is told of its place before another exchange is begun there. If no reply fits it, it is FAILED at just that tick. */
 
 /* A fresh table; SETTING, with a table of zeros, where T is not 1 to 10 or R over 9. */
 trawnosz_made trawnosz_exchanges_fresh(uint8_t timeout, uint8_t resends);

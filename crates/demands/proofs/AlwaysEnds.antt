@@ -1,21 +1,24 @@
 -- "An exchange always ends" (document 02, Q-10): over any sequence of calls from a fresh table that was not refused, refused calls among them. It is
 -- stated over what the calls answer, line by line, and over no table in between, so that a box's own log can be held against it. Assumes nothing.
-use Prim.Native.Nat.{ℕ, zero, suc, _+_, _*_, _≤_, _<_}
+use Prim.Native.Nat.{ℕ, zero, suc, _+_, _*_, _<_}
 use native.Mathlib.Omega.{arith}
 use mathlib.Core.Bool.{Bool, true, false, cond}
 use mathlib.Core.List.{List, [], _∷_, map}
-use mathlib.Core.Path.{_≡_, refl, ap, _∙_}
+use mathlib.Core.Path.{_≡_, refl, sym, ap, subst⁻¹, _∙_}
 use lib.ListN.{replicate}
+use Rattle.demands.proofs.BoxLogs.{Written, log-of-calls}
 use Rattle.exchange.specs.declared.Exchanges.{Exchanges}
+use Rattle.exchange.specs.declared.Made.{Made}
 use Rattle.exchange.specs.Begins.{modeOf, draftVerdict}
 use Rattle.exchange.specs.Calls.{Asked, begunBy, begin, reply, tick, after, Sound}
-use Rattle.exchange.specs.Lives.{Exchange, ends, life, Ended, Failed}
-use Rattle.exchange.specs.Logs.{Line, lineOf, loggedBy, isTick, begins, gives, answers, misnames, resends, count, upTo}
+use Rattle.exchange.specs.Lives.{Exchange, ends, life, Failed, Lived}
+use Rattle.exchange.specs.Logs.{Line, lineOf, loggedBy, isTick, answers, count}
 use Rattle.exchange.specs.Table.{made}
 use Rattle.exchange.proofs.Examples.{asked}
 use Rattle.exchange.proofs.Histories.{none-open}
 use Rattle.exchange.proofs.Kept.{made-sound}
-use Rattle.exchange.proofs.Lives.{Lived, each-lives}
+use Rattle.exchange.proofs.Courses.{Log}
+use Rattle.exchange.proofs.Lives.{each-lives}
 use Rattle.exchange.proofs.Taking.{begin-free, answers-fitting}
 use Rattle.frame.specs.Frame.{unitLength}
 use Rattle.kinds.specs.Table.{table, rowsOf, rows, findRow}
@@ -33,45 +36,23 @@ use Rattle.place.specs.Steps.{fits}
 use Rattle.places.specs.Rows.{placeAt}
 use Rattle.taking.specs.Boxes.{BoxCall, own, boxLine, boxAfter, boxLog, callsTick}
 use Rattle.taking.proofs.Boxes.{box-log, ticks-as-called}
+use Rattle.trawnosz.proofs.trawnosz_exchanges_fresh.Reads as c-fresh
 use Rattle.unit.specs.Objects.{textSize, endOf, walk, timely}
 use Rattle.unit.specs.Units.{judgedUnit, judgedUnder}
 use Rattle.verdict.specs.Orders.{isGood, inOrder}
 
--- the calls are begin-and-write, replies, packets given as their bytes, and ticks; "each exchange begun" is known by the line of its beginning
-module _ (t r : ℕ) (fresh : isGood (made t r .verdict) ≡ true) (cs : List BoxCall) (e : Exchange (boxLog (made t r .state) cs)) where
-  -- its life, in what the calls after its beginning answered
-  abbrev its : List Line
-  its = life (e .place) (e .after)
+-- the calls are begin-and-write, replies, packets given as their bytes, and ticks; each exchange begun is known by the line of its beginning
+pub always-ends : (t r : ℕ) → isGood (made t r .verdict) ≡ true → (cs : List BoxCall) (e : Exchange (boxLog (made t r .state) cs)) → Lived t r (e .place) (e .serial) (e .after)
+always-ends t r fresh cs e = each-lives t r fresh (box-log (made t r .state) (made-sound t r fresh) cs) e
 
-  lived : Lived t r (e .place) (e .serial) (e .after)
-  lived = each-lives t r fresh (box-log (made t r .state) (made-sound t r fresh) cs) e
-
-  -- "with T and R fixed and enough ticks to come, each exchange begun ends once, confirmed, answered or failed, no later than (R+1) times T ticks after
-  -- its beginning": fewer ticks come while it is open, and after it nothing is told of its place but of another exchange
-  pub ends-once : (r + 1) * t ≤ count isTick (e .after) → Ended ((r + 1) * t) (e .place) (e .after)
-  ends-once = lived .ends-once
-
-  -- however many are to come
-  pub open-in-time : count isTick (upTo (ends (e .place)) (e .after)) < (r + 1) * t
-  open-in-time = lived .in-time
-
-  -- "it is sent at most R+1 times, the first sending and each reported resend counted"
-  pub sent-at-most : 1 + count (resends (e .place)) its ≤ r + 1
-  sent-at-most = omega (arith, lived .sent)
-
-  -- "and its serial is given to no other while it is open", nor is its place, and each tick tells of it under its serial
-  pub serial-to-no-other : count (gives (e .serial)) its ≡ 0
-  serial-to-no-other = lived .its-serial
-
-  pub place-to-no-other : count (begins (e .place)) its ≡ 0
-  place-to-no-other = lived .its-place
-
-  pub told-by-its-serial : count (misnames (e .place) (e .serial)) its ≡ 0
-  told-by-its-serial = lived .its-name
-
-  -- where no reply fits it, it fails at the (R+1)*T-th tick after its beginning, sent R+1 times: the bounds are reached, and no smaller ones are true
-  pub fails-at-the-last : (r + 1) * t ≤ count isTick (e .after) → count (answers (e .place)) its ≡ 0 → Failed ((r + 1) * t) r (e .place) (e .after)
-  fails-at-the-last = lived .fails
+-- of the calls that C links, whatever meets their contracts
+pub c-always-ends : (κs : _) (t r : ℕ) (m : Made) → c-fresh.Post κs (t, (r, tt)) m (t, (r, tt)) → isGood (m .verdict) ≡ true
+    → (log : List Line) → Written (m .state) log → (e : Exchange log) → Lived t r (e .place) (e .serial) (e .after)
+c-always-ends κs t r m p good log w e =
+    let fresh : isGood (made t r .verdict) ≡ true = ap (λ (y : Made). isGood (y .verdict)) (sym p) ∙ good in
+    let cs = log-of-calls w in
+    let same : log ≡ boxLog (made t r .state) (cs .0) = cs .1 ∙ ap (λ (y : Made). boxLog (y .state) (cs .0)) p in
+    each-lives t r fresh (subst⁻¹ (Log (made t r .state)) same (box-log (made t r .state) (made-sound t r fresh) (cs .0))) e
 
 -- the ticks of a log are the calls that are ticks, one by one
 pub ticks-counted : (t r : ℕ) (cs : List BoxCall) → map isTick (boxLog (made t r .state) cs) ≡ map callsTick cs
@@ -135,4 +116,4 @@ module _ (t r : ℕ) (fresh : isGood (made t r .verdict) ≡ true) where
   bounds-reached =
       let n = (r + 1) * t in
       let y = begunBy x send .state in
-      fails-at-the-last t r fresh (own (begin send) ∷ replicate n (own tick)) (first-of n) (omega (arith, all-ticks n y)) (no-replies (begunBy x send .place) n y)
+      always-ends t r fresh (own (begin send) ∷ replicate n (own tick)) (first-of n) .fails-at-last (omega (arith, all-ticks n y)) (no-replies (begunBy x send .place) n y)

@@ -4,6 +4,7 @@ pub mod Checked
 pub mod Demand1
 pub mod Demand2
 pub mod Demand2Exchanges
+pub mod BoxLogs
 pub mod AlwaysEnds
 pub mod Demand3
 pub mod DeviceTable

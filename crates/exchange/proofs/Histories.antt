@@ -1,30 +1,26 @@
 -- An open place's age and resends are what the log has of it: the ticks since its last sending, and the resends told since its beginning.
--- By one call more, from a fresh table, in which no place is open. Assumes nothing.
+-- By one line more, from a fresh table, in which no place is open. Assumes nothing.
 use Prim.Native.Nat.{ℕ, _+_, _≤_, _<_}
 use native.Mathlib.Omega.{arith}
 use mathlib.Core.Bool.{Bool, true, false, cond, false≢true, and-eq-true-iff}
 use mathlib.Core.List.{List, [], _∷_, reverseAux, reverse}
-use mathlib.Core.Path.{_≡_, refl, sym, ap, subst⁻¹, _∙_}
+use mathlib.Core.Path.{_≡_, refl, sym, ap, subst, subst⁻¹, _∙_}
 use borrow.Author.Tests.{eqb-true}
-use lib.Dec.{ltb, eqb}
+use lib.Dec.{eqb}
 use lib.ListN.{getD-replicate}
+use Rattle.verdict.specs.declared.Verdict.{Verdict}
 use Rattle.verdict.specs.Orders.{isGood}
 use Rattle.place.specs.declared.Place.{Place}
-use Rattle.place.specs.declared.Reply.{Reply}
-use Rattle.place.specs.declared.Reply.the-variants.{Confirm, Answer, Deny, BadAnswer}
 use Rattle.place.specs.declared.Step.{Step}
 use Rattle.place.specs.Rules.{free, opened, isOpen}
-use Rattle.place.specs.Steps.{NOTHING, CONFIRMED, ANSWERED, RESENT, FAILED, counted, onceMore, oneOlder, becomes, denied, ticked, fits, replied}
-use Rattle.place.proofs.Kept.{holds-is, fits-holds}
+use Rattle.place.proofs.Lives.{On, Turn, on, over}
 use Rattle.places.specs.Rows.{placeAt}
 use Rattle.exchange.specs.declared.Exchanges.{Exchanges}
-use Rattle.exchange.specs.Begins.{modeOf}
 use Rattle.exchange.specs.Table.{blank, made}
-use Rattle.exchange.specs.Calls.{Asked, begunBy, Call, begin, reply, tick, after, run, Sound}
-use Rattle.exchange.specs.Logs.{Line, lineOf, loggedBy, logged, isTick, begins, tells, resends, sends, count, upTo}
-use Rattle.exchange.specs.Steps.{stepBy}
-use Rattle.exchange.proofs.Kept.{run-sound, made-sound}
-use Rattle.exchange.proofs.Steps.{each-step, taken-opened}
+use Rattle.exchange.specs.Calls.{Call, after, run, Sound}
+use Rattle.exchange.specs.Logs.{Line, of-begin, of-reply, of-tick, lineOf, loggedBy, logged, isTick, begins, tells, answers, resends, sends, count, upTo}
+use Rattle.exchange.proofs.Kept.{made-sound}
+use Rattle.exchange.proofs.Turns.{comes, Acts, call-acts}
 
 -- the place at k was begun, its age is the ticks since it was last sent, and its resends are those told since it was begun; the latest line stands first
 pub record Accounted (k : ℕ) (p : Place) (h : List Line) : Type 0 where
@@ -41,105 +37,75 @@ just-begun : (k s m : ℕ) (l : Line) (h : List Line) → begins k l ≡ true �
 unfolding count upTo
 just-begun k s m l h b = record { begun = simp b (omega arith); aged = simp b; resent = simp b }
 
--- one that does not begin it, by the step that it tells
-module _ (k : ℕ) (p : Place) (h : List Line) (a : Accounts k p h) (l : Line) (u : begins k l ≡ false) where
-  abbrev Stepped : Step → Type 0
-  Stepped y = tells k l ≡ y .outcome → Accounts k (y .place) (l ∷ h)
+-- or one after which the exchange goes on
+goes-on : (t r k : ℕ) (p q : Place) (l : Line) (h : List Line) (f : Bool) → Accounted k p h → begins k l ≡ false
+    → On t r p (cond (isTick l) 1 0) f (record { place = q; outcome = tells k l }) → Accounted k q (l ∷ h)
+unfolding count upTo
+goes-on t r k p q l h f a u g =
+    record {
+      begun = simp u (omega (arith, a .begun));
+      aged = simp u (by-test (resends k l) (g .aged));
+      resent = simp u (omega (arith, a .resent, g .resent));
+    }
+  where
+    by-test : (b : Bool) → q .age ≡ cond b 0 (cond (isTick l) 1 0 + p .age) → q .age ≡ count isTick (cond b [] (l ∷ upTo (sends k) h))
+    by-test true e = e
+    by-test false e = omega (arith, e, a .aged)
 
-  -- a free place is not open
-  freed : (o : ℕ) → Stepped (becomes free o)
-  unfolding isOpen
-  freed o e q = absurd (false≢true q)
-
-  sent-once-more : isOpen (p .mode) ≡ true → Stepped (becomes (onceMore p) RESENT)
-  unfolding count upTo
-  sent-once-more o e q =
-      let b = a o in
-      record { begun = simp u (omega (arith, b .begun)); aged = simp (u, e); resent = simp (u, e) (omega (arith, b .resent)) }
-
-  by-denial : (r : ℕ) → isOpen (p .mode) ≡ true → Stepped (denied r p)
-  unfolding denied
-  by-denial r o = by-test (ltb (p .resends) r)
-    where
-      by-test : (b : Bool) → Stepped (cond b (becomes (onceMore p) RESENT) (becomes free FAILED))
-      by-test true = sent-once-more o
-      by-test false = freed FAILED
-
-  module _ (n : isTick l ≡ false) where
-    as-before : Stepped (becomes p NOTHING)
-    unfolding count upTo
-    as-before e o =
-        let b = a o in
-        record { begun = simp u (omega (arith, b .begun)); aged = simp (u, e, n) (omega (arith, b .aged)); resent = simp (u, e) (omega (arith, b .resent)) }
-
-    by-fitting : (r : ℕ) (w : Reply) → isOpen (p .mode) ≡ true → Stepped (replied r w p)
-    unfolding replied
-    by-fitting r Confirm o = freed CONFIRMED
-    by-fitting r Answer o = freed ANSWERED
-    by-fitting r Deny o = by-denial r o
-    by-fitting r BadAnswer o = by-denial r o
-
-    by-reply : (r s : ℕ) (w : Reply) → Stepped (cond (fits s w p) (replied r w p) (becomes p NOTHING))
-    by-reply r s w = by-fit (fits s w p) refl
-      where
-        by-fit : (b : Bool) → fits s w p ≡ b → Stepped (cond b (replied r w p) (becomes p NOTHING))
-        by-fit true e = by-fitting r w (holds-is s p (fits-holds s w p e) .0)
-        by-fit false e = as-before
-
-  by-tick : (t r : ℕ) → isTick l ≡ true → Stepped (ticked t r p)
-  unfolding ticked count upTo
-  by-tick t r n = by-mode (isOpen (p .mode)) refl (ltb (p .age + 1) t)
-    where
-      by-mode : (o : Bool) → isOpen (p .mode) ≡ o → (b : Bool)
-          → Stepped (cond o (cond b (becomes (oneOlder p) NOTHING) (denied r p)) (becomes p NOTHING))
-      by-mode true o true = λ e q.
-          let b = a o in
-          record { begun = simp u (omega (arith, b .begun)); aged = simp (u, e, n) (omega (arith, b .aged)); resent = simp (u, e) (omega (arith, b .resent)) }
-      by-mode true o false = by-denial r o
-      by-mode false o b = λ e q. absurd (false≢true (sym o ∙ q))
+-- the line of a beginning that was taken at a place
+begins-line : (k : ℕ) (l : Line) → begins k l ≡ true → (v : Verdict) × (s : ℕ) × (l ≡ of-begin v k s) × (isGood v ≡ true)
+unfolding begins
+begins-line k (of-begin v j s) e =
+    let g = and-eq-true-iff (isGood v) (eqb k j) .0 e in
+    (v, s, ap (λ (n : ℕ). of-begin v n s) (sym (eqb-true k j (g .1))), g .0)
+begins-line k (of-reply v j o) e = absurd (false≢true e)
+begins-line k (of-tick v rs) e = absurd (false≢true e)
 
 module _ (k : ℕ) (here : k < 16) where
-  -- by a call on the table
-  module _ (x : Exchanges) (sound : Sound x) (h : List Line) (a : Accounts k (placeAt (x .places) k) h) where
-    abbrev Next : Call → Type 0
-    Next c = Accounts k (placeAt (after x c .places) k) (lineOf x c ∷ h)
-
-    opened-now : (b : Asked) → begins k (lineOf x (begin b)) ≡ true → Next (begin b)
-    unfolding begins lineOf after
-    opened-now b o e =
-        let g = and-eq-true-iff (isGood (begunBy x b .verdict)) (eqb k (begunBy x b .place)) .0 o in
-        let is : placeAt (begunBy x b .state .places) k ≡ opened (begunBy x b .serial) (modeOf (b .draft .command)) =
-        ap (placeAt (begunBy x b .state .places)) (eqb-true k (begunBy x b .place) (g .1)) ∙ taken-opened x sound b (g .0) in
-        subst⁻¹ (λ (q : Place). Accounted k q (lineOf x (begin b) ∷ h)) is
-        (just-begun k (begunBy x b .serial) (modeOf (b .draft .command)) (lineOf x (begin b)) h o)
-
+  module _ (x y : Exchanges) (l : Line) (acts : Acts x l y) (h : List Line) (a : Accounts k (placeAt (x .places) k) h) where
     abbrev p : Place
     p = placeAt (x .places) k
 
-    -- a call that does not begin it, by the rule for one place
-    by-step : (c : Call) (u : begins k (lineOf x c) ≡ false) → Stepped k p h a (lineOf x c) u (stepBy (x .timeout) (x .resends) p c) → Next c
-    by-step c u stepped =
-        let e = each-step x sound k here c u in
-        subst⁻¹ (λ (q : Place). Accounts k q (lineOf x c ∷ h)) (ap (λ (y : Step). y .place) e) (stepped (ap (λ (y : Step). y .outcome) e))
+    abbrev q : Place
+    q = placeAt (y .places) k
 
-    one-call : (c : Call) → Next c
-    unfolding begins lineOf stepBy isTick
-    one-call c = by-test c (begins k (lineOf x c)) refl
+    -- an open place
+    from-open : isOpen (p .mode) ≡ true → Accounts k q (l ∷ h)
+    unfolding isOpen
+    from-open o e = let t = acts .turned k here o in by-turn (t .turn) (t .own .place)
       where
-        by-test : (c : Call) (b : Bool) → begins k (lineOf x c) ≡ b → Next c
-        by-test (begin b) true u = opened-now b u
-        by-test (reply s w) true u = absurd (false≢true u)
-        by-test tick true u = absurd (false≢true u)
-        by-test (begin b) false u = by-step (begin b) u (as-before k p h a (lineOf x (begin b)) u refl)
-        by-test (reply s w) false u = by-step (reply s w) u (by-reply k p h a (lineOf x (reply s w)) u refl (x .resends) s w)
-        by-test tick false u = by-step tick u (by-tick k p h a (lineOf x tick) u (x .timeout) (x .resends) refl)
+        by-turn : Turn (x .timeout) (x .resends) p (cond (isTick l) 1 0) (answers k l) (comes y k l) → begins k l ≡ false → Accounted k q (l ∷ h)
+        by-turn (on g) u = goes-on (x .timeout) (x .resends) k p q l h (answers k l) (a o) u g
+        by-turn (over g) u = absurd (false≢true (subst (λ (z : Place). isOpen (z .mode) ≡ true) (g .freed) e))
+
+    -- a free one, which a beginning took
+    from-free : isOpen (p .mode) ≡ false → Accounts k q (l ∷ h)
+    from-free o e = by-test (begins k l) refl
+      where
+        by-test : (b : Bool) → begins k l ≡ b → Accounted k q (l ∷ h)
+        by-test false u =
+            let same = ap (λ (z : Step). isOpen (z .place .mode)) (acts .stayed k here o u) in
+            absurd (false≢true (sym o ∙ sym same ∙ e))
+        by-test true u =
+            let b = begins-line k l u in
+            let begun = acts .opens (b .0) k (b .1) (b .2) (b .3) in
+            subst⁻¹ (λ (z : Place). Accounted k z (l ∷ h)) (begun .is) (just-begun k (b .1) (begun .mode) l h u)
+
+    one-line : Accounts k q (l ∷ h)
+    one-line = by-mode (isOpen (p .mode)) refl
+      where
+        by-mode : (o : Bool) → isOpen (p .mode) ≡ o → Accounts k q (l ∷ h)
+        by-mode true o = from-open o
+        by-mode false o = from-free o
 
   -- over any sequence of calls
   pub accounts-run : (x : Exchanges) → Sound x → (h : List Line) → Accounts k (placeAt (x .places) k) h → (cs : List Call)
       → Accounts k (placeAt (run x cs .places) k) (reverseAux (logged x cs) h)
   unfolding run loggedBy
   accounts-run x sound h a [] = a
-  accounts-run x sound h a (c ∷ cs) = accounts-run (after x c) (run-sound x sound (c ∷ [])) (lineOf x c ∷ h) (one-call x sound h a c) cs
+  accounts-run x sound h a (c ∷ cs) =
+      let acts = call-acts x sound c in
+      accounts-run (after x c) (acts .sound) (lineOf x c ∷ h) (one-line x (after x c) (lineOf x c) acts h a) cs
 
   -- in a fresh table no place is open
   pub none-open : (t r : ℕ) → placeAt (made t r .state .places) k ≡ free

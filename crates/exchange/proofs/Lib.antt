@@ -6,8 +6,9 @@ pub mod Changes
 pub mod Steps
 pub mod Taking
 pub mod Denials
-pub mod Histories
 pub mod Turns
+pub mod Histories
+pub mod Courses
 pub mod Lives
 pub mod Before
 pub mod Written

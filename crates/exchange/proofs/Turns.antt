@@ -10,7 +10,6 @@ use lib.Dec.{eqb}
 use Rattle.verdict.specs.declared.Verdict.{Verdict}
 use Rattle.verdict.specs.Orders.{isGood}
 use Rattle.place.specs.declared.Place.{Place}
-use Rattle.place.specs.declared.Reply.{Reply}
 use Rattle.place.specs.declared.Step.{Step}
 use Rattle.place.specs.Rules.{opened, isOpen, holds, keeps}
 use Rattle.place.specs.Steps.{NOTHING, becomes, fits, replied}
@@ -21,8 +20,8 @@ use Rattle.places.specs.Rows.{placeAt}
 use Rattle.places.proofs.Rules.{unheld}
 use Rattle.exchange.specs.declared.Exchanges.{Exchanges}
 use Rattle.exchange.specs.Begins.{modeOf}
-use Rattle.exchange.specs.Calls.{Asked, begunBy, Call, begin, reply, tick, after, run, Sound}
-use Rattle.exchange.specs.Logs.{Line, of-begin, of-reply, lineOf, isTick, begins, gives, tells, speaks, answers, misnames}
+use Rattle.exchange.specs.Calls.{begunBy, Call, begin, reply, tick, after, run, Sound}
+use Rattle.exchange.specs.Logs.{Line, of-begin, of-reply, lineOf, isTick, begins, gives, tells, answers, misnames}
 use Rattle.exchange.specs.Steps.{stepBy}
 use Rattle.exchange.proofs.Changes.{Settings, settings-stay, taken-so, given-unopened, begun-inside, taken-free, tick-tells}
 use Rattle.exchange.proofs.Kept.{rules-of, run-sound}
@@ -33,13 +32,17 @@ use Rattle.exchange.proofs.Taking.{answers-fitting, tick-taken}
 abbrev pub comes : Exchanges → ℕ → Line → Step
 comes y k l = becomes (placeAt (y .places) k) (tells k l)
 
+-- a line that leaves place k and serial s to the exchange that has them, and tells of it under its serial
+pub record Own (k s : ℕ) (l : Line) : Type 0 where
+  pub place : begins k l ≡ false
+  pub serial : gives s l ≡ false
+  pub name : misnames k s l ≡ false
+
 -- the turn of an open place
 pub record Turned (x : Exchanges) (l : Line) (y : Exchanges) (k : ℕ) : Type 0 where
   pub kept : keeps (x .timeout) (x .resends) (placeAt (x .places) k) ≡ true
   pub turn : Turn (x .timeout) (x .resends) (placeAt (x .places) k) (cond (isTick l) 1 0) (answers k l) (comes y k l)
-  pub its-place : begins k l ≡ false
-  pub its-serial : gives (placeAt (x .places) k .serial) l ≡ false
-  pub its-name : misnames k (placeAt (x .places) k .serial) l ≡ false
+  pub own : Own k (placeAt (x .places) k .serial) l
 
 -- an exchange begun
 pub record Opens (y : Exchanges) (k s : ℕ) : Type 0 where
@@ -119,9 +122,7 @@ module _ (x : Exchanges) (sound : Sound x) where
           record {
             kept = kept;
             turn = subst⁻¹ (Takes c) (each-step x sound k here c (keeps-place c)) (takes c);
-            its-place = keeps-place c;
-            its-serial = keeps-serial c;
-            its-name = keeps-name c;
+            own = record { place = keeps-place c; serial = keeps-serial c; name = keeps-name c };
           }
 
     stayed-by : isOpen (p .mode) ≡ false → (c : Call) → begins k (lineOf x c) ≡ false → comes (after x c) k (lineOf x c) ≡ becomes p NOTHING
@@ -170,9 +171,7 @@ module _ (x : Exchanges) (sound : Sound x) where
               turn =
                   subst⁻¹ (λ (n : ℕ). Turn (x .timeout) (x .resends) (p k h) 0 (not (eqb n NOTHING)) (becomes (p k h) n)) (none (eqb k 0))
                   (passed-turn (x .timeout) (x .resends) (p k h) o false);
-              its-place = refl;
-              its-serial = refl;
-              its-name = refl;
+              own = record { place = refl; serial = refl; name = refl };
             };
         stayed = λ k h o u. ap (becomes (p k h)) (none (eqb k 0));
         opens = λ j k s e g. let z : _≡_ {A = ℕ} 0 1 = cc in absurd (omega arith);

@@ -67,6 +67,7 @@ module _ (t r : ℕ) (p : Place) where
     pub still-open : isOpen (y .place .mode) ≡ true
     pub same : y .place .serial ≡ p .serial
     pub resent : y .place .resends ≡ cond (eqb (y .outcome) RESENT) 1 0 + p .resends
+    pub aged : y .place .age ≡ cond (eqb (y .outcome) RESENT) 0 (n + p .age)
     pub falls : n + left t r (y .place) ≤ left t r p
     pub exactly : fitted ≡ false → n + left t r (y .place) ≡ left t r p
 
@@ -85,7 +86,7 @@ module _ (t r : ℕ) (p : Place) where
     pub passed-turn : (f : Bool) → Turn 0 f (becomes p NOTHING)
     unfolding goesOn
     passed-turn f =
-        on (record { told = refl; still-open = o; same = refl; resent = omega arith; falls = omega arith; exactly = λ e. omega arith })
+        on (record { told = refl; still-open = o; same = refl; resent = omega arith; aged = omega arith; falls = omega arith; exactly = λ e. omega arith })
 
     module _ (k : keeps t r p ≡ true) where
       kept : (p .age < t) × (p .resends ≤ r)
@@ -105,6 +106,7 @@ module _ (t r : ℕ) (p : Place) where
                 still-open = o;
                 same = refl;
                 resent = omega arith;
+                aged = refl;
                 falls = omega (arith, m, kept);
                 exactly = λ e. omega (arith, m, kept, all e);
               })
@@ -127,7 +129,7 @@ module _ (t r : ℕ) (p : Place) where
           by-test false c b e = absurd (false≢true c)
           by-test true c true e =
               let h = ltb-true (p .age + 1) t e in
-              on (record { told = refl; still-open = o; same = refl; resent = omega arith; falls = omega arith; exactly = λ e. omega arith })
+              on (record { told = refl; still-open = o; same = refl; resent = omega arith; aged = omega arith; falls = omega arith; exactly = λ e. omega arith })
           by-test true c false e =
               let h = ltb-false (p .age + 1) t e in
               denied-turn 1 false (omega (arith, kept)) (λ e. omega (arith, kept))

@@ -1,13 +1,12 @@
 -- A packet given as its bytes is to every place what the table's own call for that reply is, or nothing, so that what holds of the log of the table's
 -- own calls holds of a box's. Assumes nothing.
-use Prim.Native.Nat.{ℕ}
 use mathlib.Core.List.{List, [], _∷_, map}
 use mathlib.Core.Path.{_≡_, refl}
 use Rattle.exchange.specs.declared.Exchanges.{Exchanges}
 use Rattle.exchange.specs.declared.Replied.{Replied}
 use Rattle.exchange.specs.Calls.{begin, reply, tick, after, Sound}
 use Rattle.exchange.specs.Logs.{of-reply, lineOf, loggedBy, isTick}
-use Rattle.exchange.proofs.Lives.{Log, calls-log}
+use Rattle.exchange.proofs.Courses.{Log, calls-log}
 use Rattle.exchange.proofs.Turns.{Acts, call-acts, idle-acts}
 use Rattle.kinds.specs.Table.{rows}
 use Rattle.packet.specs.Frames.{judgedPacket}
