@@ -149,7 +149,7 @@ size_t choose_room(struct trial *t, size_t needed, size_t all);
 void spoil_unit(struct trial *t, uint8_t *unit, size_t *size);
 void spoil_packet(struct trial *t, uint8_t *packet, size_t *size);
 
-/* ---- make_exchange.c: exchange tables, and what is given to begin an exchange ---- */
+/* ---- make_exchange.c: exchange tables, what is given to begin an exchange, and replies ---- */
 
 /* The output has room for an L of 2,000 and more, so that LENGTH is tried where nothing is wrong with the room. */
 struct made_begin {
@@ -165,6 +165,9 @@ void break_book(struct trial *t, struct ind_book *book);
 const struct made_type *make_type_under(struct trial *t, uint8_t command);
 void make_begin(struct trial *t, struct made_begin *made, const struct made_type *type);
 void spoil_begin(struct trial *t, struct made_begin *made);
+void make_any_begin(struct trial *t, struct made_begin *made);
+uint16_t choose_serial(struct trial *t, const struct ind_book *book);
+size_t make_reply(struct trial *t, const struct ind_book *book, uint8_t *packet);
 
 /* ---- segments.c: streams of line bytes ---- */
 
@@ -205,6 +208,7 @@ void try_takes(struct trial *t);
 void try_begins(struct trial *t);
 void try_begin_orders(struct trial *t);
 void try_begin_traces(struct trial *t);
+void try_lives(struct trial *t);
 void try_names(struct trial *t);
 void try_good_devices(struct trial *t);
 void try_spoiled_devices(struct trial *t);

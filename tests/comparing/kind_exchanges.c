@@ -2,13 +2,6 @@
  * one table. */
 #include "comparing.h"
 
-/* The serial of a place, one beside it, or any. */
-static uint16_t choose_serial(struct trial *t, const struct ind_book *book)
-{
-    uint16_t serial = book->exchange[below(t, 16)].serial;
-    return (uint16_t)(chance(t, 85) ? serial : chance(t, 60) ? serial + 1u : draw(t));
-}
-
 /* A good packet of the command, begun on a table. */
 static void begin_good(struct trial *t, struct ind_book *book, uint8_t command)
 {
@@ -36,22 +29,6 @@ void try_exchange_states(struct trial *t)
     }
 }
 
-/* A packet under a serial of the table: an answer as often as all others together, good, refused at each place of the order
- * behind the sum, or with its frame spoiled. */
-static size_t make_reply(struct trial *t, const struct ind_book *book, uint8_t *packet)
-{
-    size_t size = make_any_packet(t, packet);
-    uint16_t serial = choose_serial(t, book);
-    packet[2] = (uint8_t)serial;
-    packet[3] = (uint8_t)(serial >> 8);
-    if (packet[26] == 2 && chance(t, 80))
-        packet[26] = 5;
-    seal(packet, size - 30);
-    if (chance(t, 50))
-        spoil_packet(t, packet, &size);
-    return size;
-}
-
 /* Packets taken by one table, each by the table as it was, and a few by the table as the one before left it. */
 void try_takes(struct trial *t)
 {
@@ -71,13 +48,10 @@ void try_takes(struct trial *t)
     }
 }
 
-/* A begin of a sequence: refused ones stand among good ones, so that a serial or place that they used up would be seen. */
 static void begin_any(struct trial *t, struct ind_book *book)
 {
     struct made_begin made;
-    make_begin(t, &made, make_type_under(t, chance(t, 50) ? IND_COMMAND_REQUEST : (uint8_t)between(t, 1, 2)));
-    if (chance(t, 30))
-        spoil_begin(t, &made);
+    make_any_begin(t, &made);
     both_begin_and_write(t, book, made.out, made.room, &made.draft);
 }
 

@@ -1,4 +1,5 @@
-/* Exchange tables, sound and not, and what is given to begin an exchange: a draft, and an output in which its unit stands. */
+/* Exchange tables, sound and not; what is given to begin an exchange: a draft, and an output in which its unit stands; and
+ * replies under a table's serials. */
 #include "comparing.h"
 
 #include <string.h>
@@ -151,4 +152,35 @@ void spoil_begin(struct trial *t, struct made_begin *made)
         draft->unit_size = chance(t, 80) ? lengths[below(t, 14)] : below(t, 1101);
     size_t needed = draft->unit_size <= 2001 ? 30 + draft->unit_size : sizeof made->out + 1;
     made->room = choose_room(t, needed, sizeof made->out);
+}
+
+/* A begin of a sequence: refused ones stand among good ones, so that a serial or place that they used up would be seen. */
+void make_any_begin(struct trial *t, struct made_begin *made)
+{
+    make_begin(t, made, make_type_under(t, chance(t, 50) ? IND_COMMAND_REQUEST : (uint8_t)between(t, 1, 2)));
+    if (chance(t, 30))
+        spoil_begin(t, made);
+}
+
+/* The serial of a place, one beside it, or any. */
+uint16_t choose_serial(struct trial *t, const struct ind_book *book)
+{
+    uint16_t serial = book->exchange[below(t, 16)].serial;
+    return (uint16_t)(chance(t, 85) ? serial : chance(t, 60) ? serial + 1u : draw(t));
+}
+
+/* A packet under a serial of the table: an answer as often as all others together, good, refused at each place of the order
+ * behind the sum, or with its frame spoiled. */
+size_t make_reply(struct trial *t, const struct ind_book *book, uint8_t *packet)
+{
+    size_t size = make_any_packet(t, packet);
+    uint16_t serial = choose_serial(t, book);
+    packet[2] = (uint8_t)serial;
+    packet[3] = (uint8_t)(serial >> 8);
+    if (packet[26] == 2 && chance(t, 80))
+        packet[26] = 5;
+    seal(packet, size - 30);
+    if (chance(t, 50))
+        spoil_packet(t, packet, &size);
+    return size;
 }

@@ -1,5 +1,5 @@
-/* The independent program: the rules of document 01 and of document 02's request Q-8, written from those papers alone, to
- * compare the library with. */
+/* The independent program: the rules of document 01 and of document 02's requests Q-8 and Q-10, written from those papers
+ * alone, to compare the library with. */
 #ifndef INDEPENDENT_H
 #define INDEPENDENT_H
 
@@ -211,6 +211,31 @@ struct ind_begun ind_begin_and_write(struct ind_book *book, uint8_t *out, size_t
 struct ind_turn ind_hear(struct ind_book *book, enum ind_told told, uint16_t serial);
 struct ind_turn ind_take(struct ind_book *book, const uint8_t *packet, size_t size);
 struct ind_tick ind_pass_time(struct ind_book *book);
+
+/* ---- The lives of exchanges ---- */
+
+/* What the answers have told of the last exchange that began at a place; the ticks are those since its beginning. */
+struct ind_life {
+    bool open;
+    bool replied;
+    uint16_t serial;
+    unsigned sendings;
+    unsigned ticks;
+};
+
+/* A log of answers, read from a fresh table on. */
+struct ind_lives {
+    struct ind_life life[IND_PLACES];
+    uint8_t timeout;
+    uint8_t limit;
+};
+
+/* A log is started with its T and R; then each takes its next answer, whose places are 0 to 15, and returns what is wrong with
+ * it by request Q-10, or NULL where nothing is. */
+void ind_lives_start(struct ind_lives *lives, uint8_t timeout, uint8_t limit);
+const char *ind_lives_begin(struct ind_lives *lives, const struct ind_begun *begun);
+const char *ind_lives_reply(struct ind_lives *lives, const struct ind_turn *turn);
+const char *ind_lives_tick(struct ind_lives *lives, const struct ind_tick *tick);
 
 /* ---- The device table ---- */
 

@@ -42,7 +42,8 @@ use Rattle.unit.specs.Units.{judgedUnit, judgedUnder}
 use Rattle.verdict.specs.Orders.{isGood, inOrder}
 
 -- the calls are begin-and-write, replies, packets given as their bytes, and ticks; each exchange begun is known by the line of its beginning
-pub always-ends : (t r : ℕ) → isGood (made t r .verdict) ≡ true → (cs : List BoxCall) (e : Exchange (boxLog (made t r .state) cs)) → Lived t r (e .place) (e .serial) (e .after)
+pub always-ends : (t r : ℕ) → isGood (made t r .verdict) ≡ true → (cs : List BoxCall) (e : Exchange (boxLog (made t r .state) cs))
+    → Lived t r (e .place) (e .serial) (e .after)
 always-ends t r fresh cs e = each-lives t r fresh (box-log (made t r .state) (made-sound t r fresh) cs) e
 
 -- of the calls that C links, whatever meets their contracts
@@ -116,4 +117,5 @@ module _ (t r : ℕ) (fresh : isGood (made t r .verdict) ≡ true) where
   bounds-reached =
       let n = (r + 1) * t in
       let y = begunBy x send .state in
-      always-ends t r fresh (own (begin send) ∷ replicate n (own tick)) (first-of n) .fails-at-last (omega (arith, all-ticks n y)) (no-replies (begunBy x send .place) n y)
+      let lived = always-ends t r fresh (own (begin send) ∷ replicate n (own tick)) (first-of n) in
+      lived .fails-at-last (omega (arith, all-ticks n y)) (no-replies (begunBy x send .place) n y)
