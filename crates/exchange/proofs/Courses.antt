@@ -40,7 +40,8 @@ pub record Last (t r k s : ℕ) (p : Place) (l : Line) : Type 0 where
   pub told : ends k l ≡ true
   pub is-end : isEnd (tells k l) ≡ true
   pub resent : resends k l ≡ false
-  pub exactly : answers k l ≡ false → (tells k l ≡ FAILED) × (left t r p ≡ cond (isTick l) 1 0) × (p .resends ≡ r)
+  pub spent : tells k l ≡ FAILED → p .resends ≡ r
+  pub exactly : answers k l ≡ false → (tells k l ≡ FAILED) × (left t r p ≡ cond (isTick l) 1 0)
   pub own : Own k s l
 
 -- nothing is told of a place before a beginning takes it
@@ -118,6 +119,7 @@ course k here (next {x} {y} {l} {ls} a rest) sound o = by-turn (turned .turn) (c
           told = simp (stops .0);
           is-end = h .told;
           resent = stops .1;
+          spent = h .spent;
           exactly = h .exactly;
           own = turned .own;
         })

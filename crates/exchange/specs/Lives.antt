@@ -27,29 +27,29 @@ unfoldable pub life : ℕ → List Line → List Line
 life k [] = []
 life k (l ∷ ls) = l ∷ cond (ends k l) [] (life k ls)
 
--- "ends once, confirmed, answered or failed": the line that ends it is one of these, and in those after it nothing is told of its place before another
--- beginning takes it; fewer than n ticks came while it was open
-pub record Ended (n k : ℕ) (ls : List Line) : Type 0 where
+-- "ends once, confirmed, answered or failed": the line that ends it says one of these, failed only after m resends; fewer than n ticks came before it; and in
+-- the lines after it nothing is told of its place before another beginning takes it
+pub record Ended (n m k : ℕ) (ls : List Line) : Type 0 where
   pub last : Line
   pub later : List Line
   pub split : ls ≡ upTo (ends k) ls ++ (last ∷ later)
   pub whole : life k ls ≡ upTo (ends k) ls ++ (last ∷ [])
   pub is-end : isEnd (tells k last) ≡ true
+  pub spent : tells k last ≡ FAILED → count (resends k) (life k ls) ≡ m
   pub in-time : count isTick (upTo (ends k) ls) < n
   pub silent : count (speaks k) (upTo (begins k) later) ≡ 0
 
--- an exchange that failed at the n-th tick after its beginning, m resends made
+-- failed, and so after m resends, at the n-th tick after its beginning
 pub record Failed (n m k : ℕ) (ls : List Line) : Type 0 where
-  pub ended : Ended n k ls
+  pub ended : Ended n m k ls
   pub failed : tells k (ended .last) ≡ FAILED
   pub by-tick : isTick (ended .last) ≡ true
   pub at-tick : count isTick (life k ls) ≡ n
-  pub resent : count (resends k) (life k ls) ≡ m
 
 -- what Q-10 says, T and R being t and r, of the exchange that was begun at place k under serial s, in the lines after its beginning
 pub record Lived (t r k s : ℕ) (ls : List Line) : Type 0 where
   -- "with T and R fixed and enough ticks to come, each exchange begun ends once, .. no later than (R+1) times T ticks after its beginning"
-  pub ends-once : (r + 1) * t ≤ count isTick ls → Ended ((r + 1) * t) k ls
+  pub ends-once : (r + 1) * t ≤ count isTick ls → Ended ((r + 1) * t) r k ls
   -- and however many are to come, fewer have come while it is open
   pub open-in-time : count isTick (upTo (ends k) ls) < (r + 1) * t
   -- "it is sent at most R+1 times, the first sending and each reported resend counted"

@@ -75,7 +75,8 @@ module _ (t r : ℕ) (p : Place) where
   pub record Over (n : ℕ) (fitted : Bool) (y : Step) : Type 0 where
     pub told : isEnd (y .outcome) ≡ true
     pub freed : y .place ≡ free
-    pub exactly : fitted ≡ false → (y .outcome ≡ FAILED) × (left t r p ≡ n) × (p .resends ≡ r)
+    pub spent : y .outcome ≡ FAILED → p .resends ≡ r
+    pub exactly : fitted ≡ false → (y .outcome ≡ FAILED) × (left t r p ≡ n)
 
   pub data Turn (n : ℕ) (fitted : Bool) (y : Step) : Type 0 where
     on : On n fitted y → Turn n fitted y
@@ -116,7 +117,8 @@ module _ (t r : ℕ) (p : Place) where
               over (record {
                 told = refl;
                 freed = refl;
-                exactly = λ e. (refl, ap (λ (m : ℕ). m * t + (t - p .age)) last ∙ omega (arith, all e), omega (arith, kept));
+                spent = λ e. omega (arith, kept);
+                exactly = λ e. (refl, ap (λ (m : ℕ). m * t + (t - p .age)) last ∙ omega (arith, all e));
               })
 
       -- a tick
@@ -137,8 +139,8 @@ module _ (t r : ℕ) (p : Place) where
       -- a reply that fits it
       pub replied-turn : (w : Reply) → Turn 0 true (replied r w p)
       unfolding replied isEnd
-      replied-turn Confirm = over (record { told = refl; freed = refl; exactly = λ e. absurd (false≢true (sym e)) })
-      replied-turn Answer = over (record { told = refl; freed = refl; exactly = λ e. absurd (false≢true (sym e)) })
+      replied-turn Confirm = over (record { told = refl; freed = refl; spent = λ e. omega (arith, e); exactly = λ e. absurd (false≢true (sym e)) })
+      replied-turn Answer = over (record { told = refl; freed = refl; spent = λ e. omega (arith, e); exactly = λ e. absurd (false≢true (sym e)) })
       replied-turn Deny = denied-turn 0 true (omega arith) (λ e. absurd (false≢true (sym e)))
       replied-turn BadAnswer = denied-turn 0 true (omega arith) (λ e. absurd (false≢true (sym e)))
 
