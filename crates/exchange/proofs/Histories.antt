@@ -4,10 +4,11 @@ use Prim.Native.Nat.{ℕ, _+_, _≤_, _<_}
 use native.Mathlib.Omega.{arith}
 use mathlib.Core.Bool.{Bool, true, false, cond, false≢true, and-eq-true-iff}
 use mathlib.Core.List.{List, [], _∷_, reverseAux, reverse}
-use mathlib.Core.Path.{_≡_, refl, sym, ap, subst, subst⁻¹, _∙_}
+use mathlib.Core.Path.{_≡_, sym, ap, subst, subst⁻¹, _∙_}
 use borrow.Author.Tests.{eqb-true}
 use lib.Dec.{eqb}
 use lib.ListN.{getD-replicate}
+use Rattle.octets.proofs.Flags.{by-test}
 use Rattle.verdict.specs.declared.Verdict.{Verdict}
 use Rattle.verdict.specs.Orders.{isGood}
 use Rattle.place.specs.declared.Place.{Place}
@@ -44,13 +45,13 @@ unfolding count upTo
 goes-on t r k p q l h f a u g =
     record {
       begun = simp u (omega (arith, a .begun));
-      aged = simp u (by-test (resends k l) (g .aged));
+      aged = simp u (by-resend (resends k l) (g .aged));
       resent = simp u (omega (arith, a .resent, g .resent));
     }
   where
-    by-test : (b : Bool) → q .age ≡ cond b 0 (cond (isTick l) 1 0 + p .age) → q .age ≡ count isTick (cond b [] (l ∷ upTo (sends k) h))
-    by-test true e = e
-    by-test false e = omega (arith, e, a .aged)
+    by-resend : (b : Bool) → q .age ≡ cond b 0 (cond (isTick l) 1 0 + p .age) → q .age ≡ count isTick (cond b [] (l ∷ upTo (sends k) h))
+    by-resend true e = e
+    by-resend false e = omega (arith, e, a .aged)
 
 -- the line of a beginning that was taken at a place
 begins-line : (k : ℕ) (l : Line) → begins k l ≡ true → (v : Verdict) × (s : ℕ) × (l ≡ of-begin v k s) × (isGood v ≡ true)
@@ -80,23 +81,16 @@ module _ (k : ℕ) (here : k < 16) where
 
     -- a free one, which a beginning took
     from-free : isOpen (p .mode) ≡ false → Accounts k q (l ∷ h)
-    from-free o e = by-test (begins k l) refl
-      where
-        by-test : (b : Bool) → begins k l ≡ b → Accounted k q (l ∷ h)
-        by-test false u =
-            let same = ap (λ (z : Step). isOpen (z .place .mode)) (acts .stayed k here o u) in
-            absurd (false≢true (sym o ∙ sym same ∙ e))
-        by-test true u =
-            let b = begins-line k l u in
-            let begun = acts .opens (b .0) k (b .1) (b .2) (b .3) in
-            subst⁻¹ (λ (z : Place). Accounted k z (l ∷ h)) (begun .is) (just-begun k (b .1) (begun .mode) l h u)
+    from-free o e =
+        by-test (begins k l)
+        (λ u.
+        let b = begins-line k l u in
+        let begun = acts .opens (b .0) k (b .1) (b .2) (b .3) in
+        subst⁻¹ (λ (z : Place). Accounted k z (l ∷ h)) (begun .is) (just-begun k (b .1) (begun .mode) l h u))
+        (λ u. absurd (false≢true (sym o ∙ sym (ap (λ (z : Step). isOpen (z .place .mode)) (acts .stayed k here o u)) ∙ e)))
 
     one-line : Accounts k q (l ∷ h)
-    one-line = by-mode (isOpen (p .mode)) refl
-      where
-        by-mode : (o : Bool) → isOpen (p .mode) ≡ o → Accounts k q (l ∷ h)
-        by-mode true o = from-open o
-        by-mode false o = from-free o
+    one-line = by-test (isOpen (p .mode)) from-open from-free
 
   -- over any sequence of calls
   pub accounts-run : (x : Exchanges) → Sound x → (h : List Line) → Accounts k (placeAt (x .places) k) h → (cs : List Call)
@@ -110,11 +104,11 @@ module _ (k : ℕ) (here : k < 16) where
   -- in a fresh table no place is open
   pub none-open : (t r : ℕ) → placeAt (made t r .state .places) k ≡ free
   unfolding made
-  none-open t r = by-test (isGood (made t r .verdict))
+  none-open t r = by-verdict (isGood (made t r .verdict))
     where
-      by-test : (b : Bool) → placeAt (cond b (blank t r) (blank 0 0) .places) k ≡ free
-      by-test true = getD-replicate 16 k free free here
-      by-test false = getD-replicate 16 k free free here
+      by-verdict : (b : Bool) → placeAt (cond b (blank t r) (blank 0 0) .places) k ≡ free
+      by-verdict true = getD-replicate 16 k free free here
+      by-verdict false = getD-replicate 16 k free free here
 
   pub accounted : (t r : ℕ) → isGood (made t r .verdict) ≡ true → (cs : List Call)
       → Accounts k (placeAt (run (made t r .state) cs .places) k) (reverse (logged (made t r .state) cs))

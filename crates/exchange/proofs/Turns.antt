@@ -7,6 +7,7 @@ use mathlib.Core.List.{[], _∷_}
 use mathlib.Core.Path.{_≡_, refl, sym, ap, subst, subst⁻¹, subst₂, _∙_}
 use borrow.Author.Tests.{eqb-true, eq-eqb}
 use lib.Dec.{eqb}
+use Rattle.octets.proofs.Flags.{by-test}
 use Rattle.verdict.specs.declared.Verdict.{Verdict}
 use Rattle.verdict.specs.Orders.{isGood}
 use Rattle.place.specs.declared.Place.{Place}
@@ -71,28 +72,26 @@ module _ (x : Exchanges) (sound : Sound x) where
     module _ (o : isOpen (p .mode) ≡ true) where
       keeps-place : (c : Call) → begins k (lineOf x c) ≡ false
       unfolding begins lineOf
-      keeps-place (begin a) = by-test (begins k (lineOf x (begin a))) refl
-        where
-          by-test : (b : Bool) → begins k (lineOf x (begin a)) ≡ b → b ≡ false
-          by-test false e = refl
-          by-test true e =
-              let g = and-eq-true-iff (isGood (begunBy x a .verdict)) (eqb k (begunBy x a .place)) .0 e in
-              let was = subst⁻¹ (λ (j : ℕ). isOpen (placeAt (x .places) j .mode) ≡ false) (eqb-true k (begunBy x a .place) (g .1)) (taken-free x a (g .0)) in
-              absurd (false≢true (sym was ∙ o))
+      keeps-place (begin a) =
+          by-test (begins k (lineOf x (begin a)))
+          (λ e.
+          let g = and-eq-true-iff (isGood (begunBy x a .verdict)) (eqb k (begunBy x a .place)) .0 e in
+          let was = subst⁻¹ (λ (j : ℕ). isOpen (placeAt (x .places) j .mode) ≡ false) (eqb-true k (begunBy x a .place) (g .1)) (taken-free x a (g .0)) in
+          absurd (false≢true (sym was ∙ o)))
+          (λ e. e)
       keeps-place (reply s w) = refl
       keeps-place tick = refl
 
       keeps-serial : (c : Call) → gives (p .serial) (lineOf x c) ≡ false
       unfolding gives lineOf
-      keeps-serial (begin a) = by-test (gives (p .serial) (lineOf x (begin a))) refl
-        where
-          by-test : (b : Bool) → gives (p .serial) (lineOf x (begin a)) ≡ b → b ≡ false
-          by-test false e = refl
-          by-test true e =
-              let g = and-eq-true-iff (isGood (begunBy x a .verdict)) (eqb (p .serial) (begunBy x a .serial)) .0 e in
-              let none = unheld (x .places) 0 16 (begunBy x a .serial) (given-unopened x a (g .0)) k (omega arith) here in
-              let own = subst (λ (s : ℕ). holds s p ≡ true) (eqb-true (p .serial) (begunBy x a .serial) (g .1)) (open-holds p o) in
-              absurd (false≢true (sym none ∙ own))
+      keeps-serial (begin a) =
+          by-test (gives (p .serial) (lineOf x (begin a)))
+          (λ e.
+          let g = and-eq-true-iff (isGood (begunBy x a .verdict)) (eqb (p .serial) (begunBy x a .serial)) .0 e in
+          let none = unheld (x .places) 0 16 (begunBy x a .serial) (given-unopened x a (g .0)) k (omega arith) here in
+          let own = subst (λ (s : ℕ). holds s p ≡ true) (eqb-true (p .serial) (begunBy x a .serial) (g .1)) (open-holds p o) in
+          absurd (false≢true (sym none ∙ own)))
+          (λ e. e)
       keeps-serial (reply s w) = refl
       keeps-serial tick = refl
 

@@ -7,6 +7,7 @@ use mathlib.Core.Bool.{Bool, true, false, _||_, cond, false≢true}
 use mathlib.Core.Path.{_≡_, refl, sym, ap, subst⁻¹, _∙_}
 use borrow.Author.Tests.{ltb-true, ltb-false, eqb-true}
 use lib.Dec.{ltb, eqb}
+use Rattle.octets.proofs.Flags.{by-test}
 use Rattle.place.specs.declared.Place.{Place}
 use Rattle.place.specs.declared.Reply.{Reply}
 use Rattle.place.specs.declared.Reply.the-variants.{Confirm, Answer, Deny, BadAnswer}
@@ -96,10 +97,10 @@ module _ (t r : ℕ) (p : Place) where
       -- a denial, by a reply or by the tick that brings the age to T
       denied-turn : (n : ℕ) (f : Bool) → n ≤ t - p .age → (f ≡ false → n ≡ t - p .age) → Turn n f (denied r p)
       unfolding denied goesOn isEnd
-      denied-turn n f few all = by-test (ltb (p .resends) r) refl
+      denied-turn n f few all = by-count (ltb (p .resends) r) refl
         where
-          by-test : (b : Bool) → ltb (p .resends) r ≡ b → Turn n f (cond b (becomes (onceMore p) RESENT) (becomes free FAILED))
-          by-test true e =
+          by-count : (b : Bool) → ltb (p .resends) r ≡ b → Turn n f (cond b (becomes (onceMore p) RESENT) (becomes free FAILED))
+          by-count true e =
               let h = ltb-true (p .resends) r e in
               let m = one-more t r (p .resends) h in
               on (record {
@@ -111,7 +112,7 @@ module _ (t r : ℕ) (p : Place) where
                 falls = omega (arith, m, kept);
                 exactly = λ e. omega (arith, m, kept, all e);
               })
-          by-test false e =
+          by-count false e =
               let h = ltb-false (p .resends) r e in
               let last : r - p .resends ≡ 0 = omega arith in
               over (record {
@@ -124,15 +125,15 @@ module _ (t r : ℕ) (p : Place) where
       -- a tick
       pub ticked-turn : Turn 1 false (ticked t r p)
       unfolding ticked goesOn
-      ticked-turn = by-test (isOpen (p .mode)) o (ltb (p .age + 1) t) refl
+      ticked-turn = by-age (isOpen (p .mode)) o (ltb (p .age + 1) t) refl
         where
-          by-test : (m : Bool) → m ≡ true → (b : Bool) → ltb (p .age + 1) t ≡ b
+          by-age : (m : Bool) → m ≡ true → (b : Bool) → ltb (p .age + 1) t ≡ b
               → Turn 1 false (cond m (cond b (becomes (oneOlder p) NOTHING) (denied r p)) (becomes p NOTHING))
-          by-test false c b e = absurd (false≢true c)
-          by-test true c true e =
+          by-age false c b e = absurd (false≢true c)
+          by-age true c true e =
               let h = ltb-true (p .age + 1) t e in
               on (record { told = refl; still-open = o; same = refl; resent = omega arith; aged = omega arith; falls = omega arith; exactly = λ e. omega arith })
-          by-test true c false e =
+          by-age true c false e =
               let h = ltb-false (p .age + 1) t e in
               denied-turn 1 false (omega (arith, kept)) (λ e. omega (arith, kept))
 
@@ -151,8 +152,4 @@ module _ (t r : ℕ) (p : Place) where
     ticked-free = simp o
 
     pub fits-none : (s : ℕ) (w : Reply) → fits s w p ≡ false
-    fits-none s w = by-test (fits s w p) refl
-      where
-        by-test : (b : Bool) → fits s w p ≡ b → b ≡ false
-        by-test false e = refl
-        by-test true e = absurd (false≢true (sym o ∙ holds-is s p (fits-holds s w p e) .0))
+    fits-none s w = by-test (fits s w p) (λ e. absurd (false≢true (sym o ∙ holds-is s p (fits-holds s w p e) .0))) (λ e. e)
