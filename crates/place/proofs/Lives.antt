@@ -1,5 +1,5 @@
--- What is left of an exchange's life, in ticks: it starts at (R+1)*T, a tick takes one of it and a denial at least one, and the exchange is over
--- before none is left. By the tests of a tick and a denial. Assumes nothing.
+-- What is left of an exchange's life, in ticks: it starts at (R+1)*T, a tick takes one of it, no call gives any back, and the exchange is over before
+-- none is left. By the tests of a tick and a denial. Assumes nothing.
 use Prim.Native.Nat.{ℕ, _+_, _-_, _*_, _≤_, _<_}
 use native.Mathlib.Omega.{arith}
 use native.Mathlib.Nat.{add-mul, one-mul}
