@@ -35,6 +35,7 @@ void bench_names(void)
     section("Names and lengths");
     name("name: OK", TRAWNOSZ_OK, sizeof ours);
     name("name: UNLISTED", TRAWNOSZ_REFUSED_UNLISTED, sizeof ours);
+    name("name: CENTRE", TRAWNOSZ_REFUSED_CENTRE, sizeof ours);
     name("name: CONFIRMED", TRAWNOSZ_OUTCOME_CONFIRMED, sizeof ours);
     name("name: CONFIRMED, refused", TRAWNOSZ_OUTCOME_CONFIRMED, sizeof ours - 1);
     name("name: a number without one", 200, sizeof ours);

@@ -64,13 +64,14 @@ typedef struct twin_replied {
     uint8_t outcome;
 } twin_replied;
 
-trawnosz_verdict twin_exchanges_fresh(trawnosz_exchanges *table, uint8_t timeout, uint8_t resends);
-twin_begun twin_begin_and_write(trawnosz_exchanges *table, uint8_t *out, size_t out_length, const trawnosz_draft *draft,
-                                size_t length);
-twin_replied twin_reply_confirm(trawnosz_exchanges *table, uint16_t serial);
-twin_replied twin_reply_answer(trawnosz_exchanges *table, uint16_t serial);
-twin_replied twin_reply_deny(trawnosz_exchanges *table, uint16_t serial);
-twin_replied twin_reply_bad_answer(trawnosz_exchanges *table, uint16_t serial);
+trawnosz_verdict twin_exchanges_fresh(trawnosz_exchanges *table, uint8_t timeout, uint8_t resends, const uint8_t first[6],
+                                      const uint8_t second[6]);
+twin_begun twin_begin_and_write(trawnosz_exchanges *table, uint8_t centre, uint8_t *out, size_t out_length,
+                                const trawnosz_draft *draft, size_t length);
+twin_replied twin_reply_confirm(trawnosz_exchanges *table, const uint8_t source[6], uint16_t serial);
+twin_replied twin_reply_answer(trawnosz_exchanges *table, const uint8_t source[6], uint16_t serial);
+twin_replied twin_reply_deny(trawnosz_exchanges *table, const uint8_t source[6], uint16_t serial);
+twin_replied twin_reply_bad_answer(trawnosz_exchanges *table, const uint8_t source[6], uint16_t serial);
 twin_replied twin_take_packet(trawnosz_exchanges *table, const uint8_t *packet, size_t packet_length);
 trawnosz_verdict twin_tick(trawnosz_exchanges *table, trawnosz_report reports[TRAWNOSZ_EXCHANGES]);
 

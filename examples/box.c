@@ -1,14 +1,15 @@
 /*
  * A small box, in C99 or C++: takes bytes of the panel's line from standard input, replies to packets and answers requests,
- * sends events on to the centre under serials of its own, sends them again as the exchange table says, and tells a line for
- * each thing that happened. It begins with an empty exchange table: what was open before it was started is forgotten.
+ * sends events on to two centres, under serials of its own for each, sends them again as the exchange table says, and tells
+ * a line for each thing that happened. It begins with an empty exchange table: what was open before it was started is
+ * forgotten. In box.hex the second centre is silent: what was sent to it fails, and the first's exchanges go on as ever.
  */
 #include <stdio.h>
 #include <string.h>
 
 #include "trawnosz.h"
 
-enum { TICK_BYTES = 64, TIMEOUT = 1, RESENDS = 1, UNIT_AT = 27, FRAME_BYTES = 30 };
+enum { TICK_BYTES = 80, TIMEOUT = 1, RESENDS = 1, UNIT_AT = 27, FRAME_BYTES = 30 };
 
 /* A packet that may have to be sent again. */
 typedef struct sent {
@@ -20,7 +21,7 @@ typedef struct box {
     uint8_t hold[TRAWNOSZ_LONGEST_PACKET];
     size_t held, count;
     trawnosz_exchanges table;
-    sent kept[TRAWNOSZ_EXCHANGES]; /* what was sent, by the exchange's place */
+    sent kept[TRAWNOSZ_EXCHANGES]; /* what was sent, by the exchange's place, each centre's in its own eight */
     trawnosz_label clock;
 } box;
 
@@ -36,6 +37,12 @@ static void print_name(uint8_t number)
     uint8_t name[TRAWNOSZ_LONGEST_NAME];
     trawnosz_found found = trawnosz_name(number, name, sizeof name);
     printf("%.*s", (int)found.to, (const char *)name);
+}
+
+/* A line on an exchange names its centre first, since both centres may have one serial open. */
+static void print_centre(size_t centre)
+{
+    printf("  %s centre, ", centre == TRAWNOSZ_CENTRE_FIRST ? "first" : "second");
 }
 
 static void print_bytes(const char *what, const uint8_t *bytes, size_t n)
@@ -67,16 +74,17 @@ static void print_parts(const uint8_t *unit, size_t length)
         print_part(trawnosz_read_object(unit, length, i).fields);
 }
 
-/* Sends a panel's unit on to the centre; the packet is kept, to be sent again, at the place that only the call tells. */
-static void forward(box *b, const uint8_t *unit, size_t length)
+/* Sends a panel's unit on to a centre; the packet is kept, to be sent again, at the place that only the call tells. */
+static void forward(box *b, uint8_t centre, const uint8_t *unit, size_t length)
 {
     uint8_t out[TRAWNOSZ_LONGEST_PACKET];
-    trawnosz_draft draft = {0, b->clock, {2}, {3}, TRAWNOSZ_COMMAND_SEND};
+    trawnosz_draft draft = {0, b->clock, {2}, TRAWNOSZ_COMMAND_SEND};
     memcpy(out + UNIT_AT, unit, length);
-    trawnosz_begun begun = trawnosz_begin_and_write(b->table, out, sizeof out, draft, length);
+    trawnosz_begun begun = trawnosz_begin_and_write(b->table, centre, out, sizeof out, draft, length);
     b->table = begun.state;
     if (begun.verdict.number) {
-        fputs("  not sent: ", stdout);
+        print_centre(centre);
+        fputs("not sent: ", stdout);
         print_name(begun.verdict.number);
         putchar('\n');
         return;
@@ -85,6 +93,13 @@ static void forward(box *b, const uint8_t *unit, size_t length)
     memcpy(kept->bytes, out, begun.length);
     kept->length = begun.length;
     print_bytes("sent", kept->bytes, kept->length);
+}
+
+/* Each centre gets a packet of its own, so that where one has no place free the other is still told. */
+static void forward_to_both(box *b, const uint8_t *unit, size_t length)
+{
+    for (uint8_t centre = 0; centre < TRAWNOSZ_CENTRES; centre++)
+        forward(b, centre, unit, length);
 }
 
 /* Answers a request for the states of systems: each that was asked for is in order. */
@@ -111,13 +126,15 @@ static void answer(box *b, const trawnosz_header *asked, const uint8_t *unit, si
         print_bytes("answer", out, FRAME_BYTES + size);
 }
 
-/* What became of an exchange; where it is to be sent again, the packet that was kept goes out as it was. */
+/* What became of an exchange, whose place says which centre it is with; where it is to be sent again, the packet that was
+ * kept goes out as it was. */
 static void on_outcome(const box *b, size_t exchange_place, uint8_t outcome)
 {
     const sent *kept = &b->kept[exchange_place];
     if (outcome == TRAWNOSZ_OUTCOME_NOTHING)
         return;
-    printf("  serial %u: ", kept->bytes[2] | kept->bytes[3] << 8);
+    print_centre(exchange_place / TRAWNOSZ_CENTRE_EXCHANGES);
+    printf("serial %u: ", kept->bytes[2] | kept->bytes[3] << 8);
     print_name(outcome);
     putchar('\n');
     if (outcome == TRAWNOSZ_OUTCOME_RESENT)
@@ -138,7 +155,7 @@ static void act(box *b, const uint8_t *packet, size_t length, const trawnosz_hea
     case TRAWNOSZ_COMMAND_SEND:
         if (unit[0] == TRAWNOSZ_TYPE_PART_STATE)
             print_parts(unit, unit_length);
-        forward(b, unit, unit_length);
+        forward_to_both(b, unit, unit_length);
         break;
     case TRAWNOSZ_COMMAND_REQUEST:
         if (unit[0] == TRAWNOSZ_TYPE_READ_SYSTEM_STATE)
@@ -147,7 +164,8 @@ static void act(box *b, const uint8_t *packet, size_t length, const trawnosz_hea
     }
 }
 
-/* Where the packet is a reply, good or a refused answer, the exchange that it fits takes its step. */
+/* Where the packet is a reply, good or a refused answer, the exchange that it fits takes its step; by its source the table
+ * knows which centre it is from. */
 static void take(box *b, const uint8_t *packet, size_t length)
 {
     trawnosz_replied replied = trawnosz_take_packet(b->table, packet, length);
@@ -214,11 +232,12 @@ int main(void)
 {
     static const size_t sizes[] = {1, 2, 3, 5, 7, 11, 13};
     static const trawnosz_label noon = {0, 0, 12, 1, 1, 25};
+    static const trawnosz_address first = {{3}}, second = {{4}};
     static box b;
     uint8_t piece[13];
     size_t n, total = 0, ticks = 0;
     trawnosz_fresh(b.hold);
-    b.table = trawnosz_exchanges_fresh(TIMEOUT, RESENDS).state;
+    b.table = trawnosz_exchanges_fresh(TIMEOUT, RESENDS, first, second).state;
     b.clock = noon;
     for (size_t i = 0; (n = fread(piece, 1, sizes[i % 7], stdin)) > 0; i++) {
         on_piece(&b, piece, n);

@@ -26,7 +26,7 @@ extern "C" {
 #endif
 
 /* The release that this header is of; trawnosz_release tells that of the archive. */
-#define TRAWNOSZ_RELEASE "1.2"
+#define TRAWNOSZ_RELEASE "1.3"
 
 /* Sizes and limits. */
 enum {
@@ -38,7 +38,9 @@ enum {
     TRAWNOSZ_MOST_RESENDS = 9,       /* resends are 0 to 9 */
     TRAWNOSZ_MOST_SYSTEMS = 64,      /* of a device table */
     TRAWNOSZ_MOST_PARTS = 1024,      /* of a device table */
+    TRAWNOSZ_CENTRES = 2,            /* the monitoring centres, by their numbers 0 and 1 */
     TRAWNOSZ_EXCHANGES = 16,         /* the places of an exchange table */
+    TRAWNOSZ_CENTRE_EXCHANGES = 8,   /* those of one centre: 0 to 7 are centre 0's, 8 to 15 centre 1's */
     TRAWNOSZ_DESCRIPTION_BYTES = 31, /* of types 2 and 7 */
     TRAWNOSZ_REPLY_BYTES = 30        /* a packet without a unit */
 };
@@ -63,14 +65,15 @@ enum {
     TRAWNOSZ_REFUSED_NUMBER = 15,  /* object number not below n */
     TRAWNOSZ_REFUSED_KIND = 16,    /* fields of another type than the unit; type 26 to the object writer */
     TRAWNOSZ_REFUSED_TEXT = 17,    /* description of the wrong length */
-    TRAWNOSZ_REFUSED_SETTING = 18, /* timeout or resend limit out of range */
-    TRAWNOSZ_REFUSED_FULL = 19,    /* 16 exchanges open */
-    TRAWNOSZ_REFUSED_STRAY = 20,   /* no open exchange fits the reply */
+    TRAWNOSZ_REFUSED_SETTING = 18, /* timeout or resend limit out of range, or equal centre addresses */
+    TRAWNOSZ_REFUSED_FULL = 19,    /* a centre's 8 exchanges open */
+    TRAWNOSZ_REFUSED_STRAY = 20,   /* no open exchange of the centre with the source address fits the reply */
     TRAWNOSZ_REFUSED_MANY = 21,    /* table count over its limit */
     TRAWNOSZ_REFUSED_ORDER = 22,   /* table entry not above the one before; its number from 0, parts after the systems */
     TRAWNOSZ_REFUSED_ORPHAN = 23,  /* a part's system is not listed; place as for ORDER */
     TRAWNOSZ_REFUSED_TAIL = 24,    /* bytes after the table */
-    TRAWNOSZ_REFUSED_UNLISTED = 25 /* no such part */
+    TRAWNOSZ_REFUSED_UNLISTED = 25, /* no such part */
+    TRAWNOSZ_REFUSED_CENTRE = 30   /* a centre other than the two */
 };
 
 /* Events of the receiver: these, the numbers LENGTH, END and SUM for refused starts, STATE and ROOM for a refused call. */
@@ -106,6 +109,12 @@ enum {
     TRAWNOSZ_TYPE_READ_SYSTEM_STATE = 61,          /* 2 bytes, at most 102 */
     TRAWNOSZ_TYPE_READ_PART_STATE = 62,            /* 6 bytes, at most 22 */
     TRAWNOSZ_TYPE_SET_CLOCK = 90                   /* 6 bytes, at most 1 */
+};
+
+/* The centre that a beginning names; any other is CENTRE. */
+enum {
+    TRAWNOSZ_CENTRE_FIRST = 0,
+    TRAWNOSZ_CENTRE_SECOND = 1
 };
 
 /* Modes of a place in an exchange table; any other is STATE. */
@@ -157,12 +166,11 @@ typedef struct trawnosz_header {
     uint8_t command;
 } trawnosz_header;
 
-/* What the header of a packet needs but its serial, which the exchange table gives. */
+/* What the header of a packet needs but its serial and its destination, which the exchange table gives. */
 typedef struct trawnosz_draft {
     uint8_t version;
     trawnosz_label label;
     uint8_t source[6];
-    uint8_t destination[6];
     uint8_t command;
 } trawnosz_draft;
 
@@ -229,15 +237,26 @@ typedef struct trawnosz_answer {
 /* One exchange; a free place is all zero. */
 typedef struct trawnosz_exchange {
     uint16_t serial;
-    uint8_t mode;
-    uint8_t resends;
-    uint8_t age;
+    uint16_t mode;
+    uint16_t resends;
+    uint16_t age;
 } trawnosz_exchange;
 
-/* The exchange table, by value: sixteen places, the serial to try next, T and R. */
+/* The six bytes of an address, as they stand in a packet. */
+typedef struct trawnosz_address {
+    uint8_t bytes[6];
+} trawnosz_address;
+
+/* A monitoring centre: its address, and the serial to try next for it. */
+typedef struct trawnosz_centre {
+    trawnosz_address address;
+    uint16_t next;
+} trawnosz_centre;
+
+/* The exchange table, by value: sixteen places, the two centres, T and R. */
 typedef struct trawnosz_exchanges {
     trawnosz_exchange places[16];
-    uint16_t next;
+    trawnosz_centre centres[2];
     uint8_t timeout;
     uint8_t resends;
 } trawnosz_exchanges;
@@ -259,13 +278,13 @@ typedef struct trawnosz_begun {
 typedef struct trawnosz_replied {
     trawnosz_verdict verdict;
     size_t exchange_place;
-    uint8_t outcome;
+    uint16_t outcome;
     trawnosz_exchanges state;
 } trawnosz_replied;
 
 /* What a tick told of one place, NOTHING too, and the serial that the place had before it, 0 of a free one. */
 typedef struct trawnosz_report {
-    uint8_t outcome;
+    uint16_t outcome;
     uint16_t serial;
 } trawnosz_report;
 
@@ -376,30 +395,39 @@ trawnosz_verdict trawnosz_write_text(uint8_t *out, size_t out_length, const uint
  *
  * From a table that was made and not refused, each call given the table that the one before handed back, whatever the calls
  * are: each exchange that was begun ends once, CONFIRMED, ANSWERED or FAILED, no later than the (R + 1) * T-th tick after its
- * beginning, with at most R times RESENT before; till then its place and its serial are given to no other, and after that
- * nothing is told of its place before another exchange is begun there. If no reply fits it, it is FAILED at just that tick. */
+ * beginning, with at most R times RESENT before; till then its place, and within its centre its serial, are given to no
+ * other, and after that nothing is told of its place before another exchange is begun there. If no reply fits it, it is
+ * FAILED at just that tick.
+ *
+ * Nor does one centre disturb the other: leave out all beginnings for one of them and all replies from its address, and every
+ * other call, a tick in its reports of the other's eight places, answers as before. */
 
-/* A fresh table; SETTING, with a table of zeros, where T is not 1 to 10 or R over 9. */
-trawnosz_made trawnosz_exchanges_fresh(uint8_t timeout, uint8_t resends);
+/* A fresh table for two centres, centre 0 with the first address and centre 1 with the second; SETTING, with a table of zeros,
+ * where T is not 1 to 10, R over 9, or the addresses are equal. */
+trawnosz_made trawnosz_exchanges_fresh(uint8_t timeout, uint8_t resends, trawnosz_address first, trawnosz_address second);
 
-/* Begins an exchange and writes its packet as one: the packet around the unit of `length` bytes that already stands from
- * out[27] on, as trawnosz_write_packet writes it, under the first serial, from the next one upward, that is not open; only
- * then is the lowest free place opened under it. Every member of the draft is written; commands 1 and 2 open a send, 4 a
- * request. Refuses STATE, FULL, then as trawnosz_write_packet: LENGTH, ROOM (under 30 + length), COMMAND (here for all but
- * 1, 2 and 4), TIME, UNIT, TYPE, COUNT, SIZE, TIME. Refused, no place is open that was not before and no serial is used up:
- * the next call that is good gives the serial that this one would have given. */
-trawnosz_begun trawnosz_begin_and_write(trawnosz_exchanges table, uint8_t *out, size_t out_length, trawnosz_draft draft,
-                                        size_t length);
+/* Begins an exchange with a centre and writes its packet as one: the packet around the unit of `length` bytes that already
+ * stands from out[27] on, as trawnosz_write_packet writes it, with the centre's address as destination, under the first
+ * serial, from the centre's next one upward, that is not open within the centre; only then is the lowest free place of its
+ * eight opened under it. Every member of the draft is written; commands 1 and 2 open a send, 4 a request. Refuses STATE,
+ * CENTRE (a centre other than 0 and 1), FULL (the centre's eight are open), then as trawnosz_write_packet: LENGTH, ROOM (under
+ * 30 + length), COMMAND (here for all but 1, 2 and 4), TIME, UNIT, TYPE, COUNT, SIZE, TIME. Refused, no place is open that was
+ * not before and no serial is used up: the centre's next call that is good gives the serial that this one would have given. */
+trawnosz_begun trawnosz_begin_and_write(trawnosz_exchanges table, uint8_t centre, uint8_t *out, size_t out_length,
+                                        trawnosz_draft draft, size_t length);
 
-/* The step of the exchange that the reply fits, with its place and outcome: a confirm fits a send, an answer a request, a
- * deny either, a bad answer (command 5, refused at VERSION or later) a request. Refuse STATE, STRAY. Of a refused answer
- * trawnosz_read_packet gives no serial but 0: trawnosz_take_packet, below, takes it from the bytes. */
-trawnosz_replied trawnosz_reply_confirm(trawnosz_exchanges table, uint16_t serial);
-trawnosz_replied trawnosz_reply_answer(trawnosz_exchanges table, uint16_t serial);
-trawnosz_replied trawnosz_reply_deny(trawnosz_exchanges table, uint16_t serial);
-trawnosz_replied trawnosz_reply_bad_answer(trawnosz_exchanges table, uint16_t serial);
+/* The step of the exchange that the reply fits, with its place and outcome: `source` is the source address of the reply's
+ * packet, and only an exchange of the centre that has this address fits; a confirm fits a send, an answer a request, a deny
+ * either, a bad answer (command 5, refused at VERSION or later) a request. Refuse STATE, STRAY (also where neither centre has
+ * the address). Of a refused answer trawnosz_read_packet gives zeros: trawnosz_take_packet, below, takes serial and source
+ * from the bytes. */
+trawnosz_replied trawnosz_reply_confirm(trawnosz_exchanges table, trawnosz_address source, uint16_t serial);
+trawnosz_replied trawnosz_reply_answer(trawnosz_exchanges table, trawnosz_address source, uint16_t serial);
+trawnosz_replied trawnosz_reply_deny(trawnosz_exchanges table, trawnosz_address source, uint16_t serial);
+trawnosz_replied trawnosz_reply_bad_answer(trawnosz_exchanges table, trawnosz_address source, uint16_t serial);
 
-/* Takes a packet's bytes and does with the table what the packet is to it, under the serial that stands in the bytes:
+/* Takes a packet's bytes and does with the table what the packet is to it, under the serial and the source address that stand
+ * in the bytes:
  *
  *     command        judged good              refused at VERSION or later    refused before
  *     3 confirm      trawnosz_reply_confirm   the refusal                    the refusal
@@ -411,7 +439,7 @@ trawnosz_replied trawnosz_reply_bad_answer(trawnosz_exchanges table, uint16_t se
  * that is no reply leave the table as it came, whatever is in it, with outcome NOTHING. */
 trawnosz_replied trawnosz_take_packet(trawnosz_exchanges table, const uint8_t *packet, size_t packet_length);
 
-/* One tick of every place, each with its report. Refuses STATE. */
+/* One tick of every place of both centres, each with its report. Refuses STATE. */
 trawnosz_ticked trawnosz_tick(trawnosz_exchanges table);
 
 /* ---- The device table. ---- */
@@ -437,8 +465,8 @@ trawnosz_found trawnosz_release(uint8_t *out, size_t out_length);
  * memmove and memset need; read out of the archive's code by tests/stack. ----
  *
  *   trawnosz_answer_to                304
- *   trawnosz_begin_and_write          752
- *   trawnosz_exchanges_fresh          104
+ *   trawnosz_begin_and_write          832
+ *   trawnosz_exchanges_fresh          264
  *   trawnosz_find_description         112
  *   trawnosz_find_object              112
  *   trawnosz_find_part                152
@@ -453,12 +481,12 @@ trawnosz_found trawnosz_release(uint8_t *out, size_t out_length);
  *   trawnosz_read_packet              176
  *   trawnosz_receive                  304
  *   trawnosz_release                   31
- *   trawnosz_reply_answer             848
- *   trawnosz_reply_bad_answer         848
- *   trawnosz_reply_confirm            848
- *   trawnosz_reply_deny               848
- *   trawnosz_take_packet             1024
- *   trawnosz_tick                     672
+ *   trawnosz_reply_answer             752
+ *   trawnosz_reply_bad_answer         752
+ *   trawnosz_reply_confirm            752
+ *   trawnosz_reply_deny               752
+ *   trawnosz_take_packet              992
+ *   trawnosz_tick                     768
  *   trawnosz_unit_length                8
  *   trawnosz_write_object             234
  *   trawnosz_write_packet             224
@@ -493,12 +521,11 @@ TRAWNOSZ_LAYOUT(trawnosz_header, label, 3);
 TRAWNOSZ_LAYOUT(trawnosz_header, source, 9);
 TRAWNOSZ_LAYOUT(trawnosz_header, destination, 15);
 TRAWNOSZ_LAYOUT(trawnosz_header, command, 21);
-TRAWNOSZ_LAYOUT_SIZE(trawnosz_draft, 20);
+TRAWNOSZ_LAYOUT_SIZE(trawnosz_draft, 14);
 TRAWNOSZ_LAYOUT(trawnosz_draft, version, 0);
 TRAWNOSZ_LAYOUT(trawnosz_draft, label, 1);
 TRAWNOSZ_LAYOUT(trawnosz_draft, source, 7);
-TRAWNOSZ_LAYOUT(trawnosz_draft, destination, 13);
-TRAWNOSZ_LAYOUT(trawnosz_draft, command, 19);
+TRAWNOSZ_LAYOUT(trawnosz_draft, command, 13);
 TRAWNOSZ_LAYOUT_SIZE(trawnosz_opened, 48);
 TRAWNOSZ_LAYOUT(trawnosz_opened, verdict, 0);
 TRAWNOSZ_LAYOUT(trawnosz_opened, header, 16);
@@ -532,26 +559,31 @@ TRAWNOSZ_LAYOUT(trawnosz_served, count, 40);
 TRAWNOSZ_LAYOUT_SIZE(trawnosz_answer, 24);
 TRAWNOSZ_LAYOUT(trawnosz_answer, verdict, 0);
 TRAWNOSZ_LAYOUT(trawnosz_answer, command, 16);
-TRAWNOSZ_LAYOUT_SIZE(trawnosz_exchange, 6);
+TRAWNOSZ_LAYOUT_SIZE(trawnosz_exchange, 8);
 TRAWNOSZ_LAYOUT(trawnosz_exchange, serial, 0);
 TRAWNOSZ_LAYOUT(trawnosz_exchange, mode, 2);
-TRAWNOSZ_LAYOUT(trawnosz_exchange, resends, 3);
-TRAWNOSZ_LAYOUT(trawnosz_exchange, age, 4);
-TRAWNOSZ_LAYOUT_SIZE(trawnosz_exchanges, 100);
+TRAWNOSZ_LAYOUT(trawnosz_exchange, resends, 4);
+TRAWNOSZ_LAYOUT(trawnosz_exchange, age, 6);
+TRAWNOSZ_LAYOUT_SIZE(trawnosz_address, 6);
+TRAWNOSZ_LAYOUT(trawnosz_address, bytes, 0);
+TRAWNOSZ_LAYOUT_SIZE(trawnosz_centre, 8);
+TRAWNOSZ_LAYOUT(trawnosz_centre, address, 0);
+TRAWNOSZ_LAYOUT(trawnosz_centre, next, 6);
+TRAWNOSZ_LAYOUT_SIZE(trawnosz_exchanges, 146);
 TRAWNOSZ_LAYOUT(trawnosz_exchanges, places, 0);
-TRAWNOSZ_LAYOUT(trawnosz_exchanges, next, 96);
-TRAWNOSZ_LAYOUT(trawnosz_exchanges, timeout, 98);
-TRAWNOSZ_LAYOUT(trawnosz_exchanges, resends, 99);
-TRAWNOSZ_LAYOUT_SIZE(trawnosz_made, 120);
+TRAWNOSZ_LAYOUT(trawnosz_exchanges, centres, 128);
+TRAWNOSZ_LAYOUT(trawnosz_exchanges, timeout, 144);
+TRAWNOSZ_LAYOUT(trawnosz_exchanges, resends, 145);
+TRAWNOSZ_LAYOUT_SIZE(trawnosz_made, 168);
 TRAWNOSZ_LAYOUT(trawnosz_made, verdict, 0);
 TRAWNOSZ_LAYOUT(trawnosz_made, state, 16);
-TRAWNOSZ_LAYOUT_SIZE(trawnosz_begun, 136);
+TRAWNOSZ_LAYOUT_SIZE(trawnosz_begun, 184);
 TRAWNOSZ_LAYOUT(trawnosz_begun, verdict, 0);
 TRAWNOSZ_LAYOUT(trawnosz_begun, exchange_place, 16);
 TRAWNOSZ_LAYOUT(trawnosz_begun, length, 24);
 TRAWNOSZ_LAYOUT(trawnosz_begun, serial, 32);
 TRAWNOSZ_LAYOUT(trawnosz_begun, state, 34);
-TRAWNOSZ_LAYOUT_SIZE(trawnosz_replied, 128);
+TRAWNOSZ_LAYOUT_SIZE(trawnosz_replied, 176);
 TRAWNOSZ_LAYOUT(trawnosz_replied, verdict, 0);
 TRAWNOSZ_LAYOUT(trawnosz_replied, exchange_place, 16);
 TRAWNOSZ_LAYOUT(trawnosz_replied, outcome, 24);
@@ -559,7 +591,7 @@ TRAWNOSZ_LAYOUT(trawnosz_replied, state, 26);
 TRAWNOSZ_LAYOUT_SIZE(trawnosz_report, 4);
 TRAWNOSZ_LAYOUT(trawnosz_report, outcome, 0);
 TRAWNOSZ_LAYOUT(trawnosz_report, serial, 2);
-TRAWNOSZ_LAYOUT_SIZE(trawnosz_ticked, 184);
+TRAWNOSZ_LAYOUT_SIZE(trawnosz_ticked, 232);
 TRAWNOSZ_LAYOUT(trawnosz_ticked, verdict, 0);
 TRAWNOSZ_LAYOUT(trawnosz_ticked, reports, 16);
 TRAWNOSZ_LAYOUT(trawnosz_ticked, state, 80);

@@ -54,7 +54,9 @@ void tell_of(struct answer *answer, const char *name, size_t index, uint64_t val
 void calling(struct trial *t, const char *call);
 void with_number(const char *name, uint64_t number);
 void with_bytes(const char *name, const uint8_t *bytes, size_t size);
+void name_sides(const char *one, const char *other);
 void agree(struct trial *t, const struct answer *mine, const struct answer *theirs);
+void show_answer(struct trial *t, const struct answer *answer);
 void differ(struct trial *t, const char *what);
 void differ_bytes(struct trial *t, const char *what, const uint8_t *mine, const uint8_t *theirs, size_t size);
 void show_bytes(const char *name, const uint8_t *bytes, size_t size);
@@ -63,10 +65,12 @@ void watch_signals(void);
 /* ---- translate.c: the independent program's values as the library's ---- */
 
 trawnosz_label their_label(const uint8_t label[6]);
+trawnosz_address their_address(const uint8_t address[6]);
 trawnosz_header their_header(const struct ind_packet *fields);
 trawnosz_draft their_draft(const struct ind_draft *mine);
 trawnosz_fields their_fields(const struct ind_object *object);
 trawnosz_exchanges their_table(const struct ind_book *book);
+struct ind_book our_book(const trawnosz_exchanges *table);
 bool same_table(const trawnosz_exchanges *one, const trawnosz_exchanges *other);
 bool same_book(const struct ind_book *one, const struct ind_book *other);
 void tell_verdict(struct answer *answer, struct ind_verdict verdict);
@@ -74,6 +78,7 @@ void tell_their_verdict(struct answer *answer, trawnosz_verdict verdict);
 void agree_verdict(struct trial *t, struct ind_verdict mine, trawnosz_verdict theirs);
 void agree_part(struct trial *t, struct ind_span mine, trawnosz_found theirs);
 void tell_book(struct answer *answer, const struct ind_book *book);
+void tell_their_half(struct answer *answer, const trawnosz_exchanges *table, size_t centre);
 void tell_their_table(struct answer *answer, const trawnosz_exchanges *table);
 uint8_t outcome_number(enum ind_outcome outcome);
 uint8_t event_number(const struct ind_received *received);
@@ -103,10 +108,25 @@ void both_fresh(struct trial *t, struct ind_hold *hold);
 struct ind_received both_receive(struct trial *t, struct ind_hold *hold, const uint8_t *piece, size_t size, uint8_t *out,
                                  size_t room);
 
-struct ind_verdict both_exchanges_fresh(struct trial *t, struct ind_book *book, uint8_t timeout, uint8_t limit);
-struct ind_begun both_begin_and_write(struct trial *t, struct ind_book *book, uint8_t *out, size_t room,
+/* The four kinds of reply, in the order of `enum ind_told`. */
+struct reply_call {
+    const char *name;
+    trawnosz_replied (*call)(trawnosz_exchanges, trawnosz_address, uint16_t);
+};
+
+extern const struct reply_call reply_calls[4];
+
+void calling_on(struct trial *t, const char *call, const struct ind_book *book);
+void with_draft(uint8_t centre, const uint8_t *out, size_t room, const struct ind_draft *draft);
+void tell_their_begun(struct answer *answer, const trawnosz_begun *begun);
+void tell_their_reply(struct answer *answer, const trawnosz_replied *replied);
+void tell_their_report(struct answer *answer, const trawnosz_ticked *ticked, size_t place);
+struct ind_verdict both_exchanges_fresh(struct trial *t, struct ind_book *book, uint8_t timeout, uint8_t limit,
+                                        const uint8_t first[6], const uint8_t second[6]);
+struct ind_begun both_begin_and_write(struct trial *t, struct ind_book *book, uint8_t centre, uint8_t *out, size_t room,
                                       const struct ind_draft *draft);
-struct ind_turn both_reply(struct trial *t, struct ind_book *book, enum ind_told told, uint16_t serial);
+struct ind_turn both_reply(struct trial *t, struct ind_book *book, enum ind_told told, const uint8_t source[6],
+                           uint16_t serial);
 struct ind_turn both_take_packet(struct trial *t, struct ind_book *book, const uint8_t *packet, size_t size);
 struct ind_tick both_tick(struct trial *t, struct ind_book *book);
 
@@ -149,25 +169,42 @@ size_t choose_room(struct trial *t, size_t needed, size_t all);
 void spoil_unit(struct trial *t, uint8_t *unit, size_t *size);
 void spoil_packet(struct trial *t, uint8_t *packet, size_t *size);
 
-/* ---- make_exchange.c: exchange tables, what is given to begin an exchange, and replies ---- */
+/* ---- make_exchange.c: the addresses of two centres, and exchange tables, sound and not ---- */
+
+void make_addresses(struct trial *t, uint8_t first[6], uint8_t second[6]);
+void make_fresh(struct trial *t, struct ind_book *book, uint8_t timeout, uint8_t limit);
+void make_book(struct trial *t, struct ind_book *book);
+void make_book_with(struct trial *t, struct ind_book *book, size_t first, size_t second);
+void make_book_with_room(struct trial *t, struct ind_book *book);
+void spoil_book(struct trial *t, struct ind_book *book);
+void break_book(struct trial *t, struct ind_book *book);
+
+/* ---- make_calls.c: what is given to begin an exchange, and replies ---- */
+
+enum { BEGIN_MOST = 2100 };
 
 /* The output has room for an L of 2,000 and more, so that LENGTH is tried where nothing is wrong with the room. */
 struct made_begin {
-    uint8_t out[2100];
+    uint8_t centre;
+    uint8_t out[BEGIN_MOST];
     size_t room;
     struct ind_draft draft;
 };
 
-void make_book(struct trial *t, struct ind_book *book);
-void make_book_with(struct trial *t, struct ind_book *book, size_t open);
-void spoil_book(struct trial *t, struct ind_book *book);
-void break_book(struct trial *t, struct ind_book *book);
+/* What a reply is given as, beside its kind. */
+struct made_reply {
+    uint8_t source[6];
+    uint16_t serial;
+};
+
+uint8_t make_no_centre(struct trial *t);
 const struct made_type *make_type_under(struct trial *t, uint8_t command);
 void make_begin(struct trial *t, struct made_begin *made, const struct made_type *type);
 void spoil_begin(struct trial *t, struct made_begin *made);
 void make_any_begin(struct trial *t, struct made_begin *made);
-uint16_t choose_serial(struct trial *t, const struct ind_book *book);
-size_t make_reply(struct trial *t, const struct ind_book *book, uint8_t *packet);
+struct ind_begun both_begin(struct trial *t, struct ind_book *book, struct made_begin *made);
+struct made_reply make_reply(struct trial *t, const struct ind_book *book);
+size_t make_reply_packet(struct trial *t, const struct ind_book *book, uint8_t *packet);
 
 /* ---- segments.c: streams of line bytes ---- */
 
@@ -185,9 +222,20 @@ void add_hostile_start(struct trial *t, struct stream *stream);
 void add_nested(struct trial *t, struct stream *stream);
 void add_segment(struct trial *t, struct stream *stream);
 
+/* ---- kind_examples.c: what examples are made of and held against ---- */
+
+extern const char example_a[];
+extern const char example_b[];
+extern const char example_b_unit[];
+
+size_t from_hex(uint8_t *bytes, const char *hex);
+void expect(struct trial *t, bool holds);
+void expect_verdict(struct trial *t, struct ind_verdict verdict, enum ind_refusal refusal, size_t place);
+
 /* ---- kind_*.c: the kinds of input ---- */
 
 void try_examples(struct trial *t);
+void try_exchange_examples(struct trial *t);
 void try_streams(struct trial *t);
 void try_noise(struct trial *t);
 void try_receiver_states(struct trial *t);
@@ -209,6 +257,7 @@ void try_begins(struct trial *t);
 void try_begin_orders(struct trial *t);
 void try_begin_traces(struct trial *t);
 void try_lives(struct trial *t);
+void try_centres(struct trial *t);
 void try_names(struct trial *t);
 void try_good_devices(struct trial *t);
 void try_spoiled_devices(struct trial *t);

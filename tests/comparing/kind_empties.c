@@ -23,7 +23,7 @@ static void read_nothing(struct trial *t)
     both_description_place(t, NULL, 0, below(t, 3));
     both_judge_table(t, NULL, 0);
     both_find_place(t, NULL, 0, key);
-    both_exchanges_fresh(t, &book, 1, 0);
+    make_fresh(t, &book, 1, 0);
     both_take_packet(t, &book, NULL, 0);
 }
 
@@ -56,18 +56,19 @@ static void begin_nowhere(struct trial *t)
 {
     struct ind_book book;
     struct made_begin made;
-    make_book_with(t, &book, below(t, 16));
+    make_book_with_room(t, &book);
     make_begin(t, &made, &made_types[below(t, TYPES)]);
-    if (both_begin_and_write(t, &book, NULL, 0, &made.draft).verdict.refusal != IND_ROOM)
+    if (both_begin_and_write(t, &book, made.centre, NULL, 0, &made.draft).verdict.refusal != IND_ROOM)
         differ(t, "a begin without an output is not ROOM");
     made.draft.unit_size = below(t, 3);
     made.draft.command = (uint8_t)below(t, 8);
-    if (both_begin_and_write(t, &book, NULL, 0, &made.draft).verdict.refusal != IND_ROOM)
+    if (both_begin_and_write(t, &book, made.centre, NULL, 0, &made.draft).verdict.refusal != IND_ROOM)
         differ(t, "a begin without an output is not ROOM");
     made.draft.unit_size = between(t, 1025, 2000);
-    both_begin_and_write(t, &book, NULL, 0, &made.draft);
+    both_begin_and_write(t, &book, made.centre, NULL, 0, &made.draft);
+    both_begin_and_write(t, &book, make_no_centre(t), NULL, 0, &made.draft);
     break_book(t, &book);
-    both_begin_and_write(t, &book, NULL, 0, &made.draft);
+    both_begin_and_write(t, &book, made.centre, NULL, 0, &made.draft);
 }
 
 /* An empty piece on any hold, and no buffer. */

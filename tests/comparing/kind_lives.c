@@ -1,5 +1,5 @@
-/* The lives of exchanges: sequences of calls from a fresh table on, whose answers must keep request Q-10, and short logs by
- * which it is tried that the independent program tells one that keeps it from one that does not. */
+/* The lives of exchanges: sequences of calls from a fresh table on, whose answers must keep request Q-10 for each centre, and
+ * short logs by which it is tried that the independent program tells one that keeps it from one that does not. */
 #include "comparing.h"
 
 /* A table, and what the calls on it have answered. */
@@ -19,8 +19,8 @@ static void expect_kept(struct trial *t, const char *wrong)
 
 static struct ind_begun begin(struct trial *t, struct box *box, struct made_begin *made)
 {
-    struct ind_begun begun = both_begin_and_write(t, &box->book, made->out, made->room, &made->draft);
-    expect_kept(t, ind_lives_begin(&box->lives, &begun));
+    struct ind_begun begun = both_begin(t, &box->book, made);
+    expect_kept(t, ind_lives_begin(&box->lives, made->centre, &begun));
     return begun;
 }
 
@@ -31,16 +31,22 @@ static void begin_any(struct trial *t, struct box *box)
     begin(t, box, &made);
 }
 
-static void reply(struct trial *t, struct box *box, enum ind_told told, uint16_t serial)
+static void reply(struct trial *t, struct box *box, enum ind_told told, const uint8_t source[6], uint16_t serial)
 {
-    struct ind_turn turn = both_reply(t, &box->book, told, serial);
+    struct ind_turn turn = both_reply(t, &box->book, told, source, serial);
     expect_kept(t, ind_lives_reply(&box->lives, &turn));
+}
+
+static void reply_any(struct trial *t, struct box *box)
+{
+    struct made_reply made = make_reply(t, &box->book);
+    reply(t, box, (enum ind_told)below(t, 4), made.source, made.serial);
 }
 
 static void take(struct trial *t, struct box *box)
 {
     uint8_t packet[MADE_MOST];
-    size_t size = make_reply(t, &box->book, packet);
+    size_t size = make_reply_packet(t, &box->book, packet);
     struct ind_turn turn = both_take_packet(t, &box->book, packet, size);
     expect_kept(t, ind_lives_reply(&box->lives, &turn));
 }
@@ -51,23 +57,22 @@ static void tick(struct trial *t, struct box *box)
     expect_kept(t, ind_lives_tick(&box->lives, &ticked));
 }
 
-/* An exchange that is open by what was answered, or NULL. */
-static const struct ind_life *any_open(struct trial *t, const struct box *box)
+/* The place of an exchange that is open by what was answered, or 16. */
+static size_t any_open(struct trial *t, const struct box *box)
 {
     size_t from = below(t, 16);
     for (size_t i = 0; i < 16; i++) {
-        const struct ind_life *life = &box->lives.life[(from + i) % 16];
-        if (life->open)
-            return life;
+        if (box->lives.life[(from + i) % 16].open)
+            return (from + i) % 16;
     }
-    return NULL;
+    return 16;
 }
 
 static void deny_one(struct trial *t, struct box *box)
 {
-    const struct ind_life *open = any_open(t, box);
-    if (open)
-        reply(t, box, IND_DENY_CAME, open->serial);
+    size_t place = any_open(t, box);
+    if (place < 16)
+        reply(t, box, IND_DENY_CAME, box->book.centre[place / 8].address, box->lives.life[place].serial);
 }
 
 static void one_call(struct trial *t, struct box *box, unsigned begins, enum beside beside)
@@ -79,20 +84,32 @@ static void one_call(struct trial *t, struct box *box, unsigned begins, enum bes
     else if (chance(t, 30))
         take(t, box);
     else
-        reply(t, box, (enum ind_told)below(t, 4), choose_serial(t, &box->book));
+        reply_any(t, box);
     if (beside == DENY_AT_EACH)
         deny_one(t, box);
 }
 
-/* The serials go round once, past those of a few exchanges that stay open: each later one is confirmed at once. */
+/* Begins, some of them refused, for one centre. */
+static void begin_some(struct trial *t, struct box *box, uint8_t centre, size_t most)
+{
+    struct made_begin made;
+    for (size_t i = between(t, 1, most); i > 0; i--) {
+        make_any_begin(t, &made);
+        made.centre = centre;
+        begin(t, box, &made);
+    }
+}
+
+/* The serials of a centre go round once, past those of a few of its exchanges that stay open, and not past those that are open
+ * for the other: each later one is confirmed at once. */
 static void go_round(struct trial *t, struct box *box)
 {
     struct made_begin made;
-    for (size_t i = between(t, 1, 15); i > 0; i--)
-        begin_any(t, box);
     make_begin(t, &made, made_type_of(IND_SET_TRANSMITTER_CLOCK));
+    begin_some(t, box, made.centre, 7);
+    begin_some(t, box, (uint8_t)(1 - made.centre), 8);
     for (size_t i = 0; i < 65536; i++)
-        reply(t, box, IND_CONFIRM_CAME, begin(t, box, &made).serial);
+        reply(t, box, IND_CONFIRM_CAME, box->book.centre[made.centre].address, begin(t, box, &made).serial);
 }
 
 /* "enough ticks to come": "(R+1) times T". */
@@ -100,13 +117,14 @@ static void end_all(struct trial *t, struct box *box)
 {
     for (unsigned i = (box->book.limit + 1u) * box->book.timeout; i > 0; i--)
         tick(t, box);
-    if (any_open(t, box))
+    if (any_open(t, box) < 16)
         differ(t, "an exchange has not ended in (R+1) times T ticks");
 }
 
 /* Logs by letters, and how many of their answers are wrong: B begins at place 0 under serial 0, P at that place under another
  * serial, S under that serial at another place; of place 0 a reply tells c, a, r or f, and a tick R, F or by - nothing; X is
- * a tick that names another serial. */
+ * a tick that names another serial. Of the second centre D begins at place 8 under serial 0 too, and d confirms that; V begins
+ * for the first centre at place 9, and W for the second at place 1. */
 static const struct {
     uint8_t timeout;
     uint8_t limit;
@@ -119,7 +137,9 @@ static const struct {
     {1, 1, "BRFF", 1},   {1, 1, "BRFR", 1},   {2, 1, "Bca", 1},    {2, 1, "Bar", 1},    {9, 2, "Brrff", 1},
     {2, 1, "BP", 1},     {2, 1, "BS", 1},     {2, 1, "BX", 1},     {9, 2, "Brrr", 1},   {2, 1, "B-R-R", 1},
     {1, 0, "B-", 1},     {2, 1, "B-R--", 1},  {2, 1, "Br----", 1}, {2, 1, "B----c", 2}, {2, 1, "BRF", 1},
-    {2, 1, "BrcBRF", 1}, {2, 1, "B---F", 1},  {2, 0, "BF", 1},     {2, 1, "Bf", 1},
+    {2, 1, "BrcBRF", 1}, {2, 1, "B---F", 1},  {2, 0, "BF", 1},     {2, 1, "Bf", 1},     {9, 1, "BD-cd", 0},
+    {9, 1, "DdBD", 0},   {9, 1, "BDcS", 0},   {9, 1, "BDdS", 1},   {9, 1, "BDD", 1},    {9, 1, "BDdc", 0},
+    {9, 1, "Bd", 1},     {9, 1, "BDcc", 1},   {9, 1, "V", 1},      {9, 1, "W", 1},      {1, 0, "BDF", 1},
 };
 
 enum { LOGS = sizeof logs / sizeof logs[0] };
@@ -128,6 +148,7 @@ static enum ind_outcome outcome_of(char letter)
 {
     switch (letter) {
     case 'c':
+    case 'd':
         return IND_CONFIRMED;
     case 'a':
         return IND_ANSWERED;
@@ -142,16 +163,26 @@ static enum ind_outcome outcome_of(char letter)
     }
 }
 
+static const char *read_begin(struct ind_lives *lives, char letter)
+{
+    bool second = letter == 'D' || letter == 'W';
+    size_t place = letter == 'S' || letter == 'W' ? 1 : letter == 'D' ? 8 : letter == 'V' ? 9 : 0;
+    struct ind_begun begun = {.place = place, .serial = letter == 'P'};
+    return ind_lives_begin(lives, second, &begun);
+}
+
 static const char *read_letter(struct ind_lives *lives, char letter)
 {
-    struct ind_begun begun = {.place = letter == 'S', .serial = letter == 'P'};
-    struct ind_turn turn = {.outcome = outcome_of(letter)};
+    struct ind_turn turn = {.place = letter == 'd' ? 8 : 0, .outcome = outcome_of(letter)};
     struct ind_tick ticked = {.outcome = {outcome_of(letter)}, .serial = {letter == 'X'}};
     switch (letter) {
     case 'B':
     case 'P':
     case 'S':
-        return ind_lives_begin(lives, &begun);
+    case 'D':
+    case 'V':
+    case 'W':
+        return read_begin(lives, letter);
     case 'R':
     case 'F':
     case 'X':
@@ -183,7 +214,7 @@ void try_lives(struct trial *t)
     uint8_t timeout = (uint8_t)(t->turn % 10 + 1), limit = (uint8_t)(t->turn / 10 % 10);
     unsigned begins = (unsigned)between(t, 20, 70);
     enum beside beside = (enum beside)below(t, 3);
-    both_exchanges_fresh(t, &box.book, timeout, limit);
+    make_fresh(t, &box.book, timeout, limit);
     ind_lives_start(&box.lives, timeout, limit);
     if (t->turn % 4093 == 4092)
         go_round(t, &box);

@@ -60,36 +60,39 @@ static void write_and_read(struct trial *t, const uint8_t *unit, size_t unit_siz
         differ(t, "a written packet does not read back as its fields");
 }
 
-/* What a good begin must have written: the draft's fields under the serial that it gave. */
-static struct ind_packet fields_of(const struct ind_draft *draft, uint16_t serial)
+/* What a good begin must have written: the draft's fields under the serial that it gave, to the centre that it named. */
+static struct ind_packet fields_of(const struct ind_draft *draft, uint16_t serial, const struct ind_centre *centre)
 {
     struct ind_packet fields = {
         .serial = serial, .user_version = draft->user_version, .command = draft->command, .unit_size = draft->unit_size
     };
     memcpy(fields.label, draft->label, 6);
     memcpy(fields.source, draft->source, 6);
-    memcpy(fields.destination, draft->destination, 6);
+    memcpy(fields.destination, centre->address, 6);
     return fields;
 }
 
-/* A begun packet is judged good and reads back; its confirm or answer then finds the place that was opened for it. */
+/* A begun packet is judged good and reads back; its confirm or answer from where it went to then finds the place that was
+ * opened for it. */
 static void begin_and_read(struct trial *t)
 {
     struct ind_book book;
     struct made_begin made;
     uint8_t unit[MADE_MOST];
-    make_book_with(t, &book, below(t, 16));
+    make_book_with_room(t, &book);
     make_begin(t, &made, &made_types[below(t, TYPES)]);
+    const struct ind_centre *centre = &book.centre[made.centre];
     memcpy(unit, made.out + 27, made.draft.unit_size);
-    struct ind_begun begun = both_begin_and_write(t, &book, made.out, made.room, &made.draft);
-    struct ind_packet fields = fields_of(&made.draft, begun.serial);
+    struct ind_begun begun = both_begin(t, &book, &made);
+    struct ind_packet fields = fields_of(&made.draft, begun.serial, centre);
     struct ind_verdict verdict = both_judge_packet(t, made.out, begun.packet_size);
     struct ind_packet back = both_read_packet(t, made.out, begun.packet_size);
     if (begun.verdict.refusal || verdict.refusal || !same_fields(&back, &fields)
         || memcmp(made.out + 27, unit, fields.unit_size) != 0)
-        differ(t, "a begun packet does not read back as its draft under its serial");
+        differ(t, "a begun packet does not read back as its draft under its serial, to its centre");
     bool request = fields.command == IND_COMMAND_REQUEST;
-    struct ind_turn turn = both_reply(t, &book, request ? IND_ANSWER_CAME : IND_CONFIRM_CAME, begun.serial);
+    enum ind_told told = request ? IND_ANSWER_CAME : IND_CONFIRM_CAME;
+    struct ind_turn turn = both_reply(t, &book, told, back.destination, begun.serial);
     if (turn.place != begun.place || turn.outcome != (request ? IND_ANSWERED : IND_CONFIRMED))
         differ(t, "the reply to a begun packet does not fit its exchange");
 }

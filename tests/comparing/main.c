@@ -13,7 +13,7 @@ static void (*const kinds[])(struct trial *) = {
     try_spoiled_devices, try_packet_writer, try_damage, try_receiver_states, try_unit_lengths, try_text_writers, try_packets,
     try_streams, try_units, try_object_writer, try_exchange_states, try_spoiled_devices, try_round_trip, try_empties,
     try_packet_writer, try_receiver_states, try_packets, try_takes, try_names, try_takes, try_begins, try_begin_orders,
-    try_begin_traces, try_begins, try_lives,
+    try_begin_traces, try_begins, try_lives, try_centres,
 };
 
 /* Long noise and the documents' examples are cases of their own now and then. */

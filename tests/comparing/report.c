@@ -10,6 +10,7 @@
 enum { MOST_INPUTS = 16 };
 
 static const char *current_call = "none";
+static const char *sides[2] = {"independent", "library"};
 static const struct trial *current_trial;
 static size_t inputs;
 static struct {
@@ -33,8 +34,16 @@ void tell(struct answer *answer, const char *name, uint64_t value)
     tell_of(answer, name, SIZE_MAX, value);
 }
 
+/* The two whose answers are compared: the two programs, unless a call is held against the same one in another sequence. */
+void name_sides(const char *one, const char *other)
+{
+    sides[0] = one;
+    sides[1] = other;
+}
+
 void calling(struct trial *t, const char *call)
 {
+    name_sides("independent", "library");
     current_call = call;
     current_trial = t;
     inputs = 0;
@@ -93,7 +102,7 @@ static void print_answers(const struct answer *mine, const struct answer *theirs
         if (a == b && !(all && a != 0))
             continue;
         print_name(mine, i);
-        printf(": independent %llu, library %llu%s\n", (unsigned long long)a, (unsigned long long)b,
+        printf(": %s %llu, %s %llu%s\n", sides[0], (unsigned long long)a, sides[1], (unsigned long long)b,
                a == b ? "" : "   <- differs");
     }
 }
@@ -124,8 +133,8 @@ void differ_bytes(struct trial *t, const char *what, const uint8_t *mine, const 
     print_trial(t);
     printf("the bytes of %s differ\n", what);
     print_call();
-    print_bytes("independent", mine, size);
-    print_bytes("library", theirs, size);
+    print_bytes(sides[0], mine, size);
+    print_bytes(sides[1], theirs, size);
     stop(t);
 }
 
@@ -151,6 +160,20 @@ void agree(struct trial *t, const struct answer *mine, const struct answer *thei
     }
     if (!are_same)
         stop(t);
+}
+
+/* An answer that is held against another only later. */
+void show_answer(struct trial *t, const struct answer *answer)
+{
+    if (!t->show)
+        return;
+    print_call();
+    for (size_t i = 0; i < answer->lines; i++) {
+        if (answer->line[i].value == 0)
+            continue;
+        print_name(answer, i);
+        printf(": %llu\n", (unsigned long long)answer->line[i].value);
+    }
 }
 
 void show_bytes(const char *name, const uint8_t *bytes, size_t size)

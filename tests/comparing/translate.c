@@ -11,6 +11,13 @@ trawnosz_label their_label(const uint8_t label[6])
     return theirs;
 }
 
+trawnosz_address their_address(const uint8_t address[6])
+{
+    trawnosz_address theirs;
+    memcpy(theirs.bytes, address, 6);
+    return theirs;
+}
+
 trawnosz_header their_header(const struct ind_packet *fields)
 {
     trawnosz_header header = {
@@ -26,7 +33,6 @@ trawnosz_draft their_draft(const struct ind_draft *mine)
 {
     trawnosz_draft draft = {.version = mine->user_version, .label = their_label(mine->label), .command = mine->command};
     memcpy(draft.source, mine->source, 6);
-    memcpy(draft.destination, mine->destination, 6);
     return draft;
 }
 
@@ -55,7 +61,11 @@ trawnosz_fields their_fields(const struct ind_object *object)
 
 trawnosz_exchanges their_table(const struct ind_book *book)
 {
-    trawnosz_exchanges table = {.next = book->next, .timeout = book->timeout, .resends = book->limit};
+    trawnosz_exchanges table = {.timeout = book->timeout, .resends = book->limit};
+    for (int i = 0; i < 2; i++) {
+        table.centres[i].address = their_address(book->centre[i].address);
+        table.centres[i].next = book->centre[i].next;
+    }
     for (int i = 0; i < 16; i++) {
         table.places[i].serial = book->exchange[i].serial;
         table.places[i].mode = book->exchange[i].mode;
@@ -65,10 +75,33 @@ trawnosz_exchanges their_table(const struct ind_book *book)
     return table;
 }
 
+/* The library's table as a book, from which the next call of a sequence is made. */
+struct ind_book our_book(const trawnosz_exchanges *table)
+{
+    struct ind_book book = {.timeout = table->timeout, .limit = table->resends};
+    for (int i = 0; i < 2; i++) {
+        memcpy(book.centre[i].address, table->centres[i].address.bytes, 6);
+        book.centre[i].next = table->centres[i].next;
+    }
+    for (int i = 0; i < 16; i++) {
+        book.exchange[i].serial = table->places[i].serial;
+        book.exchange[i].mode = table->places[i].mode;
+        book.exchange[i].resends = table->places[i].resends;
+        book.exchange[i].age = table->places[i].age;
+    }
+    return book;
+}
+
+static bool same_centre(const trawnosz_centre *one, const trawnosz_centre *other)
+{
+    return memcmp(one->address.bytes, other->address.bytes, 6) == 0 && one->next == other->next;
+}
+
 /* Member by member, since the bytes between them may be anything. */
 bool same_table(const trawnosz_exchanges *one, const trawnosz_exchanges *other)
 {
-    bool same = one->next == other->next && one->timeout == other->timeout && one->resends == other->resends;
+    bool same = one->timeout == other->timeout && one->resends == other->resends
+        && same_centre(&one->centres[0], &other->centres[0]) && same_centre(&one->centres[1], &other->centres[1]);
     for (int i = 0; i < 16; i++) {
         const trawnosz_exchange *a = &one->places[i], *b = &other->places[i];
         same = same && a->serial == b->serial && a->mode == b->mode && a->resends == b->resends && a->age == b->age;
@@ -114,16 +147,35 @@ void agree_part(struct trial *t, struct ind_span mine, trawnosz_found theirs)
     agree(t, &a, &b);
 }
 
-/* The new table in the order of the library's members. */
-void tell_their_table(struct answer *answer, const trawnosz_exchanges *table)
+static void tell_places(struct answer *answer, const trawnosz_exchanges *table, size_t centre)
 {
-    for (size_t i = 0; i < 16; i++) {
+    for (size_t i = 8 * centre; i < 8 * centre + 8; i++) {
         tell_of(answer, "serial of place", i, table->places[i].serial);
         tell_of(answer, "mode of place", i, table->places[i].mode);
         tell_of(answer, "resends of place", i, table->places[i].resends);
         tell_of(answer, "age of place", i, table->places[i].age);
     }
-    tell(answer, "next", table->next);
+}
+
+static void tell_centre(struct answer *answer, const trawnosz_centre *centre, size_t number)
+{
+    static const char *const names[] = {"first centre's address, byte", "second centre's address, byte"};
+    for (size_t i = 0; i < 6; i++)
+        tell_of(answer, names[number], i, centre->address.bytes[i]);
+    tell_of(answer, "next of centre", number, centre->next);
+}
+
+/* What a table has of one centre: its eight places, its address and its next serial. */
+void tell_their_half(struct answer *answer, const trawnosz_exchanges *table, size_t centre)
+{
+    tell_places(answer, table, centre);
+    tell_centre(answer, &table->centres[centre], centre);
+}
+
+void tell_their_table(struct answer *answer, const trawnosz_exchanges *table)
+{
+    tell_their_half(answer, table, 0);
+    tell_their_half(answer, table, 1);
     tell(answer, "timeout", table->timeout);
     tell(answer, "resends", table->resends);
 }

@@ -1,5 +1,5 @@
-/* The independent program: the rules of document 01 and of document 02's requests Q-8 and Q-10, written from those papers
- * alone, to compare the library with. */
+/* The independent program: the rules of document 01 and of document 02's requests Q-8, Q-10 and Q-11, written from those
+ * papers alone, to compare the library with. */
 #ifndef INDEPENDENT_H
 #define INDEPENDENT_H
 
@@ -163,24 +163,28 @@ enum ind_outcome { IND_NOTHING, IND_CONFIRMED, IND_ANSWERED, IND_RESENT, IND_FAI
 
 struct ind_exchange {
     uint16_t serial;
-    uint8_t mode;
-    uint8_t resends;
-    uint8_t age;
+    uint16_t mode;
+    uint16_t resends;
+    uint16_t age;
+};
+
+struct ind_centre {
+    uint8_t address[6];
+    uint16_t next;
 };
 
 struct ind_book {
     struct ind_exchange exchange[IND_PLACES];
-    uint16_t next;
+    struct ind_centre centre[IND_CENTRES];
     uint8_t timeout;
     uint8_t limit;
 };
 
-/* What a packet that begins an exchange needs, beside the serial, which the book gives. */
+/* What a packet that begins an exchange needs, beside the serial and the destination, which the book gives. */
 struct ind_draft {
     uint8_t user_version;
     uint8_t label[6];
     uint8_t source[6];
-    uint8_t destination[6];
     uint8_t command;
     size_t unit_size;
 };
@@ -206,9 +210,21 @@ struct ind_tick {
     uint16_t serial[IND_PLACES];
 };
 
-struct ind_verdict ind_make_book(struct ind_book *book, uint8_t timeout, uint8_t limit);
-struct ind_begun ind_begin_and_write(struct ind_book *book, uint8_t *out, size_t room, const struct ind_draft *draft);
-struct ind_turn ind_hear(struct ind_book *book, enum ind_told told, uint16_t serial);
+/* The centre that a place belongs to; the first place of a centre, and the one behind its last. */
+size_t ind_centre_of(size_t place);
+size_t ind_first_of(size_t centre);
+size_t ind_end_of(size_t centre);
+
+bool ind_same_address(const uint8_t one[6], const uint8_t other[6]);
+bool ind_is_open_under(const struct ind_exchange *one, uint16_t serial);
+size_t ind_open_at(const struct ind_book *book, size_t centre, uint16_t serial);
+bool ind_book_sound(const struct ind_book *book);
+
+struct ind_verdict ind_make_book(struct ind_book *book, uint8_t timeout, uint8_t limit, const uint8_t first[6],
+                                 const uint8_t second[6]);
+struct ind_begun ind_begin_and_write(struct ind_book *book, uint8_t centre, uint8_t *out, size_t room,
+                                     const struct ind_draft *draft);
+struct ind_turn ind_hear(struct ind_book *book, enum ind_told told, const uint8_t source[6], uint16_t serial);
 struct ind_turn ind_take(struct ind_book *book, const uint8_t *packet, size_t size);
 struct ind_tick ind_pass_time(struct ind_book *book);
 
@@ -230,10 +246,11 @@ struct ind_lives {
     uint8_t limit;
 };
 
-/* A log is started with its T and R; then each takes its next answer, whose places are 0 to 15, and returns what is wrong with
- * it by request Q-10, or NULL where nothing is. */
+/* A log is started with its T and R; then each takes its next answer, whose places are 0 to 15, that of a beginning with the
+ * centre that it named, and returns what is wrong with it by request Q-10, which by Q-11 "holds for each" centre, or NULL
+ * where nothing is. */
 void ind_lives_start(struct ind_lives *lives, uint8_t timeout, uint8_t limit);
-const char *ind_lives_begin(struct ind_lives *lives, const struct ind_begun *begun);
+const char *ind_lives_begin(struct ind_lives *lives, uint8_t centre, const struct ind_begun *begun);
 const char *ind_lives_reply(struct ind_lives *lives, const struct ind_turn *turn);
 const char *ind_lives_tick(struct ind_lives *lives, const struct ind_tick *tick);
 

@@ -1,4 +1,5 @@
-/* The lives of exchanges, read from what calls answer and never from a table: request Q-10. */
+/* The lives of exchanges, read from what calls answer and never from a table: request Q-10, which by Q-11 "holds for each"
+ * centre. */
 #include "independent.h"
 
 #include <string.h>
@@ -27,16 +28,24 @@ static bool out_of_time(const struct ind_lives *lives, const struct ind_life *li
     return life->open && life->ticks >= most_ticks(lives);
 }
 
-/* "its serial is given to no other while it is open"; a refused beginning tells nothing. */
-const char *ind_lives_begin(struct ind_lives *lives, const struct ind_begun *begun)
+static bool is_open_under(const struct ind_life *life, uint16_t serial)
+{
+    return life->open && life->serial == serial;
+}
+
+/* "its serial is given to no other while it is open", where "a serial is open only within its centre"; a refused beginning
+ * tells nothing. */
+const char *ind_lives_begin(struct ind_lives *lives, uint8_t centre, const struct ind_begun *begun)
 {
     if (begun->verdict.refusal)
         return NULL;
+    if (ind_centre_of(begun->place) != centre)
+        return "an exchange begins at a place that is not its centre's";
     if (lives->life[begun->place].open)
         return "an exchange begins at a place at which one is open";
     for (size_t i = 0; i < IND_PLACES; i++) {
-        if (lives->life[i].open && lives->life[i].serial == begun->serial)
-            return "an exchange begins under a serial under which one is open";
+        if (ind_centre_of(i) == centre && is_open_under(&lives->life[i], begun->serial))
+            return "an exchange begins under a serial under which one of its centre is open";
     }
     lives->life[begun->place] = (struct ind_life){.open = true, .serial = begun->serial, .sendings = 1};
     return NULL;

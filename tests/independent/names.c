@@ -35,7 +35,8 @@ const char *ind_refusal_name(enum ind_refusal refusal)
 {
     static const char *const names[] = {
         "OK", "STATE", "ROOM", "CUT", "START", "LENGTH", "END", "SUM", "VERSION", "COMMAND", "TIME", "UNIT", "TYPE",
-        "COUNT", "SIZE", "NUMBER", "KIND", "TEXT", "SETTING", "FULL", "STRAY", "MANY", "ORDER", "ORPHAN", "TAIL", "UNLISTED"
+        "COUNT", "SIZE", "NUMBER", "KIND", "TEXT", "SETTING", "FULL", "STRAY", "MANY", "ORDER", "ORPHAN", "TAIL", "UNLISTED",
+        [IND_CENTRE] = "CENTRE"
     };
     return names[refusal];
 }
@@ -46,7 +47,8 @@ const char *ind_event_name(enum ind_event event)
     return names[event];
 }
 
-/* The names of our own numbers; nothing told is 0, which is good. */
+/* The names of our own numbers, and of the refusals, of which the papers that we go by leave out 26 to 29; nothing told is 0,
+ * which is good. */
 const char *ind_name(uint8_t number)
 {
     switch (number) {
@@ -65,7 +67,7 @@ const char *ind_name(uint8_t number)
     case IND_TOLD_FAILED:
         return "FAILED";
     default:
-        return number <= IND_UNLISTED ? ind_refusal_name((enum ind_refusal)number) : "";
+        return number <= IND_UNLISTED || number == IND_CENTRE ? ind_refusal_name((enum ind_refusal)number) : "";
     }
 }
 

@@ -1,4 +1,5 @@
-/* The documents' numbers, in one table: each as document 01 writes it, and the few that the paper leaves to us. */
+/* The documents' numbers, in one table: each as document 01 or, for two centres, request Q-11 of document 02 writes it, and
+ * the few that the papers leave to us. */
 #ifndef NUMBERS_H
 #define NUMBERS_H
 
@@ -11,13 +12,15 @@ enum {
     IND_LONGEST_NAME = 9,       /* CONFIRMED has nine letters */
     IND_DESCRIPTION_BYTES = 31, /* "description 31" */
     IND_PLACES = 16,            /* "Sixteen places" */
+    IND_CENTRES = 2,            /* "Reports go to two centres." */
+    IND_CENTRE_PLACES = 8,      /* "Places 0 to 7 are the first centre's, 8 to 15 the second's" */
     IND_LONGEST_TIMEOUT = 10,   /* "Timeout T is 1 to 10 ticks" */
     IND_MOST_RESENDS = 9,       /* "resends R 0 to 9" */
     IND_MOST_SYSTEMS = 64,      /* "systems (at most 64; type, address)" */
     IND_MOST_PARTS = 1024       /* "parts (at most 1,024; the 38 bytes of a type 7 body)" */
 };
 
-/* "Refusal numbers"; 0 is none of them. */
+/* "Refusal numbers", and request Q-11's "30 CENTRE"; 0 is none of them. */
 enum ind_refusal {
     IND_GOOD = 0,
     IND_STATE = 1,
@@ -44,7 +47,8 @@ enum ind_refusal {
     IND_ORDER = 22,
     IND_ORPHAN = 23,
     IND_TAIL = 24,
-    IND_UNLISTED = 25
+    IND_UNLISTED = 25,
+    IND_CENTRE = 30
 };
 
 /* "Commands 1 control, 2 send, 3 confirm, 4 request, 5 answer, 6 deny." */
@@ -74,6 +78,9 @@ enum ind_type_number {
     IND_READ_PART_STATE = 62,
     IND_SET_TRANSMITTER_CLOCK = 90
 };
+
+/* "Places 0 to 7 are the first centre's": the numbers by which a centre is named are ours. */
+enum { IND_FIRST_CENTRE = 0, IND_SECOND_CENTRE = 1 };
 
 /* "mode (free, send, request)"; "A free place is all zero." */
 enum ind_mode { IND_FREE = 0, IND_SEND = 1, IND_REQUEST = 2 };

@@ -7,12 +7,14 @@ use mathlib.Core.List.{List, [], _∷_, map}
 use mathlib.Core.Path.{_≡_, refl, sym, ap, subst⁻¹, _∙_}
 use lib.ListN.{replicate}
 use Rattle.demands.proofs.BoxLogs.{Written, log-of-calls}
+use Rattle.exchange.specs.declared.Address.{Address}
 use Rattle.exchange.specs.declared.Exchanges.{Exchanges}
 use Rattle.exchange.specs.declared.Made.{Made}
 use Rattle.exchange.specs.Begins.{modeOf, draftVerdict}
 use Rattle.exchange.specs.Calls.{Asked, begunBy, begin, reply, tick, after, Sound}
 use Rattle.exchange.specs.Lives.{Exchange, ends, life, Failed, Lived}
 use Rattle.exchange.specs.Logs.{Line, lineOf, loggedBy, isTick, answers, count}
+use Rattle.exchange.specs.Steps.{fitsFrom}
 use Rattle.exchange.specs.Table.{made}
 use Rattle.exchange.proofs.Examples.{asked}
 use Rattle.exchange.proofs.Histories.{none-open}
@@ -32,8 +34,6 @@ use Rattle.packet.proofs.Examples.{B}
 use Rattle.place.specs.declared.Place.{Place}
 use Rattle.place.specs.declared.Reply.{Reply}
 use Rattle.place.specs.Rules.{isOpen}
-use Rattle.place.specs.Steps.{fits}
-use Rattle.places.specs.Rows.{placeAt}
 use Rattle.taking.specs.Boxes.{BoxCall, own, boxLine, boxAfter, boxLog, callsTick}
 use Rattle.taking.proofs.Boxes.{box-log, ticks-as-called}
 use Rattle.trawnosz.proofs.trawnosz_exchanges_fresh.Reads as c-fresh
@@ -42,44 +42,46 @@ use Rattle.unit.specs.Units.{judgedUnit, judgedUnder}
 use Rattle.verdict.specs.Orders.{isGood, inOrder}
 
 -- the calls are begin-and-write, replies, packets given as their bytes, and ticks; each exchange begun is known by the line of its beginning
-pub always-ends : (t r : ℕ) → isGood (made t r .verdict) ≡ true → (cs : List BoxCall) (e : Exchange (boxLog (made t r .state) cs))
+pub always-ends : (t r : ℕ) (a b : List ℕ) → isGood (made t r a b .verdict) ≡ true → (cs : List BoxCall) (e : Exchange (boxLog (made t r a b .state) cs))
     → Lived t r (e .place) (e .serial) (e .after)
-always-ends t r fresh cs e = each-lives t r fresh (box-log (made t r .state) (made-sound t r fresh) cs) e
+always-ends t r a b fresh cs e = each-lives t r a b fresh (box-log (made t r a b .state) (made-sound t r a b fresh) cs) e
 
 -- of the calls that C links, whatever meets their contracts
-pub c-always-ends : (κs : _) (t r : ℕ) (m : Made) → c-fresh.Post κs (t, (r, tt)) m (t, (r, tt)) → isGood (m .verdict) ≡ true
+pub c-always-ends : (κs : _) (t r : ℕ) (a b : Address) (m : Made) → c-fresh.Post κs (t, (r, (a, (b, tt)))) m (t, (r, (a, (b, tt)))) → isGood (m .verdict) ≡ true
     → (log : List Line) → Written (m .state) log → (e : Exchange log) → Lived t r (e .place) (e .serial) (e .after)
-c-always-ends κs t r m p good log w e =
-    let fresh : isGood (made t r .verdict) ≡ true = ap (λ (y : Made). isGood (y .verdict)) (sym p) ∙ good in
+c-always-ends κs t r a b m p good log w e =
+    let start = made t r (a .bytes) (b .bytes) in
+    let fresh : isGood (start .verdict) ≡ true = ap (λ (y : Made). isGood (y .verdict)) (sym p) ∙ good in
     let cs = log-of-calls w in
-    let same : log ≡ boxLog (made t r .state) (cs .0) = cs .1 ∙ ap (λ (y : Made). boxLog (y .state) (cs .0)) p in
-    each-lives t r fresh (subst⁻¹ (Log (made t r .state)) same (box-log (made t r .state) (made-sound t r fresh) (cs .0))) e
+    let same : log ≡ boxLog (start .state) (cs .0) = cs .1 ∙ ap (λ (y : Made). boxLog (y .state) (cs .0)) p in
+    each-lives t r (a .bytes) (b .bytes) fresh
+    (subst⁻¹ (Log (start .state)) same (box-log (start .state) (made-sound t r (a .bytes) (b .bytes) fresh) (cs .0))) e
 
 -- the ticks of a log are the calls that are ticks, one by one
-pub ticks-counted : (t r : ℕ) (cs : List BoxCall) → map isTick (boxLog (made t r .state) cs) ≡ map callsTick cs
-ticks-counted t r cs = ticks-as-called (made t r .state) cs
+pub ticks-counted : (t r : ℕ) (a b : List ℕ) (cs : List BoxCall) → map isTick (boxLog (made t r a b .state) cs) ≡ map callsTick cs
+ticks-counted t r a b cs = ticks-as-called (made t r a b .state) cs
 
 -- and a reply's line tells something of a place exactly where the reply fits it
-pub fits-is-told : (x : Exchanges) → Sound x → (s : ℕ) (w : Reply) (k : ℕ) → k < 16 → answers k (lineOf x (reply s w)) ≡ fits s w (placeAt (x .places) k)
+pub fits-is-told : (x : Exchanges) → Sound x → (a : List ℕ) (s : ℕ) (w : Reply) (k : ℕ) → k < 16 → answers k (lineOf x (reply a s w)) ≡ fitsFrom x a s w k
 fits-is-told = answers-fitting
 
--- for every T and R the bounds are reached: by document 01's packet B, begun, and then ticks alone
-module _ (t r : ℕ) (fresh : isGood (made t r .verdict) ≡ true) where
+-- for every T and R, and for each centre, the bounds are reached: by document 01's packet B, begun, and then ticks alone
+module _ (t r : ℕ) (a b : List ℕ) (fresh : isGood (made t r a b .verdict) ≡ true) (c : ℕ) (own-centre : c < 2) where
   abbrev x : Exchanges
-  x = made t r .state
+  x = made t r a b .state
 
   abbrev send : Asked
-  send = asked 2 (unitOf B)
+  send = asked c 2 (unitOf B)
 
-  written : isGood (draftVerdict rows x (send .out) (send .draft) (send .size)) ≡ true
+  written : isGood (draftVerdict rows x c (send .out) (send .draft) (send .size)) ≡ true
   unfolding modeOf isOpen inOrder packetVerdict judgedUnder judgedUnit rowsOf table findRow textSize endOf walk timely judged inRanges firstFit lowFirst part unitLength
   written = refl
 
   taken : isGood (begunBy x send .verdict) ≡ true
   unfolding isOpen
   taken =
-      let none = ap (λ (p : Place). isOpen (p .mode)) (none-open 0 (omega arith) t r) in
-      ap isGood (begin-free x (made-sound t r fresh) send 0 (omega arith) none) ∙ written
+      let none = ap (λ (p : Place). isOpen (p .mode)) (none-open (c * 8) (omega (arith, own-centre)) t r a b) in
+      ap isGood (begin-free x (made-sound t r a b fresh) send own-centre (c * 8) (omega arith) (omega arith) none) ∙ written
 
   -- the log of so many ticks
   abbrev ticks : Exchanges → ℕ → List Line
@@ -117,5 +119,5 @@ module _ (t r : ℕ) (fresh : isGood (made t r .verdict) ≡ true) where
   bounds-reached =
       let n = (r + 1) * t in
       let y = begunBy x send .state in
-      let lived = always-ends t r fresh (own (begin send) ∷ replicate n (own tick)) (first-of n) in
+      let lived = always-ends t r a b fresh (own (begin send) ∷ replicate n (own tick)) (first-of n) in
       lived .fails-at-last (omega (arith, all-ticks n y)) (no-replies (begunBy x send .place) n y)

@@ -4,6 +4,7 @@ use Prim.Native.Nat.{ℕ}
 use mathlib.Core.List.{List, [], _∷_}
 use mathlib.Core.Path.{_≡_, refl, sym, ap, _∙_}
 use denote.Ref.{RefT, now}
+use Rattle.exchange.specs.declared.Address.{Address}
 use Rattle.exchange.specs.declared.Begun.{Begun}
 use Rattle.exchange.specs.declared.Draft.{Draft}
 use Rattle.exchange.specs.declared.Exchanges.{Exchanges}
@@ -23,15 +24,15 @@ use Rattle.trawnosz.proofs.trawnosz_tick.Reads as c-tick
 
 -- one call: the table that it is given, its answer's line, and the table that it gives back
 pub data Called : Exchanges → Line → Exchanges → Type 0 where
-  begins : (κs : _) (x : Exchanges) (out o : RefT (List ℕ)) (d : Draft) (l : ℕ) (b : Begun)
-      → c-begin-and-write.Post κs (x, (out, (d, (l, tt)))) b (x, (o, (d, (l, tt)))) → Called x (of-begin (b .verdict) (b .place) (b .serial)) (b .state)
-  confirms : (κs : _) (x : Exchanges) (s : ℕ) (a : Replied) → c-reply-confirm.Post κs (x, (s, tt)) a (x, (s, tt))
+  begins : (κs : _) (x : Exchanges) (n : ℕ) (out o : RefT (List ℕ)) (d : Draft) (l : ℕ) (b : Begun)
+      → c-begin-and-write.Post κs (x, (n, (out, (d, (l, tt))))) b (x, (n, (o, (d, (l, tt))))) → Called x (of-begin (b .verdict) (b .place) (b .serial)) (b .state)
+  confirms : (κs : _) (x : Exchanges) (f : Address) (s : ℕ) (a : Replied) → c-reply-confirm.Post κs (x, (f, (s, tt))) a (x, (f, (s, tt)))
       → Called x (of-reply (a .verdict) (a .place) (a .outcome)) (a .state)
-  answers : (κs : _) (x : Exchanges) (s : ℕ) (a : Replied) → c-reply-answer.Post κs (x, (s, tt)) a (x, (s, tt))
+  answers : (κs : _) (x : Exchanges) (f : Address) (s : ℕ) (a : Replied) → c-reply-answer.Post κs (x, (f, (s, tt))) a (x, (f, (s, tt)))
       → Called x (of-reply (a .verdict) (a .place) (a .outcome)) (a .state)
-  denies : (κs : _) (x : Exchanges) (s : ℕ) (a : Replied) → c-reply-deny.Post κs (x, (s, tt)) a (x, (s, tt))
+  denies : (κs : _) (x : Exchanges) (f : Address) (s : ℕ) (a : Replied) → c-reply-deny.Post κs (x, (f, (s, tt))) a (x, (f, (s, tt)))
       → Called x (of-reply (a .verdict) (a .place) (a .outcome)) (a .state)
-  answers-badly : (κs : _) (x : Exchanges) (s : ℕ) (a : Replied) → c-reply-bad-answer.Post κs (x, (s, tt)) a (x, (s, tt))
+  answers-badly : (κs : _) (x : Exchanges) (f : Address) (s : ℕ) (a : Replied) → c-reply-bad-answer.Post κs (x, (f, (s, tt))) a (x, (f, (s, tt)))
       → Called x (of-reply (a .verdict) (a .place) (a .outcome)) (a .state)
   takes : (κs : _) (x : Exchanges) (p : RefT (List ℕ)) (a : Replied) → c-take-packet.Post κs (x, (p, tt)) a (x, (p, tt))
       → Called x (of-reply (a .verdict) (a .place) (a .outcome)) (a .state)
@@ -53,15 +54,15 @@ replied-as x c a b e l y =
 
 called-as : {x y : Exchanges} {l : Line} → Called x l y → As x l y
 unfolding boxLine boxAfter lineOf after
-called-as (begins κs x out o d l b p) = (
-  own (begin (record { out = now out; draft = d; size = l })),
+called-as (begins κs x n out o d l b p) = (
+  own (begin (record { centre = n; out = now out; draft = d; size = l })),
   ap (λ (z : Begun). of-begin (z .verdict) (z .place) (z .serial)) (p .0),
   ap (λ (z : Begun). z .state) (p .0),
 )
-called-as (confirms κs x s a p) = replied-as x (own (reply s Confirm)) a _ p refl refl
-called-as (answers κs x s a p) = replied-as x (own (reply s Answer)) a _ p refl refl
-called-as (denies κs x s a p) = replied-as x (own (reply s Deny)) a _ p refl refl
-called-as (answers-badly κs x s a p) = replied-as x (own (reply s BadAnswer)) a _ p refl refl
+called-as (confirms κs x f s a p) = replied-as x (own (reply (f .bytes) s Confirm)) a _ p refl refl
+called-as (answers κs x f s a p) = replied-as x (own (reply (f .bytes) s Answer)) a _ p refl refl
+called-as (denies κs x f s a p) = replied-as x (own (reply (f .bytes) s Deny)) a _ p refl refl
+called-as (answers-badly κs x f s a p) = replied-as x (own (reply (f .bytes) s BadAnswer)) a _ p refl refl
 called-as (takes κs x q a p) = replied-as x (packet (now q)) a _ p refl refl
 called-as (ticks κs x y p) = (own tick, ap (λ (z : Ticked). of-tick (z .verdict) (z .reports)) p, ap (λ (z : Ticked). z .state) p)
 

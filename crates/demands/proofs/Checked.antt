@@ -1,6 +1,6 @@
 -- Document 01, "Checked examples": A, B and 1 to 10, and the cases of document 02's requests that landed, as one table under one theorem, each answer
 -- in numbers under their names. Assumes nothing.
-use Prim.Native.Nat.{ℕ, zero, suc, _+_}
+use Prim.Native.Nat.{ℕ, zero, suc, _+_, _-_}
 use Prim.Native.String.{String}
 use mathlib.Core.List.{List, [], _∷_, _++_, map}
 use mathlib.Core.Path.{_≡_, refl}
@@ -10,8 +10,8 @@ use Rattle.exchange.specs.Begins.{modeOf, begunVerdict, begun, begunOutput}
 use Rattle.exchange.specs.Calls.{Asked, begunBy, Call, begin, reply, tick, after}
 use Rattle.exchange.specs.Lives.{ends, life}
 use Rattle.exchange.specs.Logs.{Line, lineOf, loggedBy, tells, resends, count}
-use Rattle.exchange.specs.Table.{legal, made, found, answered, ticking}
-use Rattle.exchange.proofs.Examples.{draft, asked}
+use Rattle.exchange.specs.Table.{centre, nextAt, centreOf, legal, blank, made, found, answered, ticking}
+use Rattle.exchange.proofs.Examples.{draft, first-address, second-address, neither, asked, fresh as fresh-table}
 use Rattle.frame.specs.Frame.{room, unitLength, sumOf, ended, summed}
 use Rattle.kinds.specs.Table.{table, rowsOf, rows, findRow}
 use Rattle.label.specs.Times.{labelBytes, judged, inRanges}
@@ -20,21 +20,21 @@ use Rattle.lines.specs.Events.{line, shortLine, packetLine, eventLine, lastLine
 use Rattle.naming.specs.Names.{ascii, lettersIn, letters}
 use Rattle.octets.specs.Numbers.{lowFirst, bytesOf}
 use Rattle.octets.specs.Parts.{part, putAt}
-use Rattle.octets.specs.Searches.{firstFit, anyFits, every}
+use Rattle.octets.specs.Searches.{firstFit, anyFits, every, same}
 use Rattle.octets.specs.Sums.{total}
 use Rattle.octets.proofs.Examples.{A}
 use Rattle.packet.specs.declared.Header.{Header}
 use Rattle.output.specs.Packets.{headBytes, packetBytes}
 use Rattle.output.specs.Writing.{packetVerdict, writtenPacket}
 use Rattle.packet.specs.Frames.{unitOf, judgedContent, judgedPacket, unitPlace}
-use Rattle.packet.specs.Headers.{openedPacket}
+use Rattle.packet.specs.Headers.{headerOf, openedPacket}
 use Rattle.packet.proofs.Examples.{B}
 use Rattle.place.specs.declared.Place.{Place}
-use Rattle.place.specs.declared.Reply.the-variants.{Deny}
-use Rattle.place.specs.Rules.{FREE, SEND, REQUEST, opened as place, isOpen, isZero, holds, keeps}
-use Rattle.place.specs.Steps.{NOTHING, RESENT, FAILED, goesOn, denied, ticked, fits, replied}
+use Rattle.place.specs.declared.Reply.the-variants.{Confirm as ConfirmReply, Deny}
+use Rattle.place.specs.Rules.{FREE, SEND, REQUEST, free, opened as place, isOpen, isZero, holds, keeps}
+use Rattle.place.specs.Steps.{NOTHING, CONFIRMED, RESENT, FAILED, goesOn, denied, ticked, fits, replied}
 use Rattle.places.specs.declared.Report.{Report}
-use Rattle.places.specs.Rows.{lowestFree, isOpenAs, twice, allKeep, areSound, serialFor, fitting, swept}
+use Rattle.places.specs.Rows.{lowestFree, isOpenAs, twice, allKeep, areSound, serialFor, fitting, allSound, swept}
 use Rattle.reading.specs.Values.{MORE, PACKET, told, packetOf}
 use Rattle.reading.specs.Standing.{whenThere, judgedFrame, started, stands}
 use Rattle.reading.specs.Finding.{onward, more, noise, hit, found as foundIn, first, Heard, Reading, readOn, reading}
@@ -47,7 +47,7 @@ use Rattle.unit.specs.Objects.{textSize, endOf, walk, timely}
 use Rattle.unit.specs.Units.{judgedUnit, judgedUnder}
 use Rattle.verdict.specs.declared.Verdict.{Verdict}
 use Rattle.verdict.specs.Orders.{inOrder, refusal, good, partBy, partIn}
-use Rattle.verdict.specs.Refusals.{STATE, ROOM, LENGTH, END, SUM, COMMAND, TIME, TYPE, COUNT, FULL}
+use Rattle.verdict.specs.Refusals.{STATE, ROOM, LENGTH, END, SUM, COMMAND, TIME, TYPE, COUNT, SETTING, FULL, STRAY, CENTRE}
 
 -- a verdict's number and place
 abbrev of : Verdict → List ℕ
@@ -116,48 +116,53 @@ repeated (suc n) o = o ++ repeated n o
 abbrev operations : ℕ → List ℕ
 operations n = 24 ∷ n ∷ repeated n (1 ∷ 2 ∷ 0x00 ∷ 0x1E ∷ 0x08 ∷ 0x0F ∷ 0x06 ∷ 0x18 ∷ [])
 
--- what a beginning answers: the verdict, then place, length, serial and the serial that is next
+-- what a beginning answers: the verdict, then place, length, serial and the serial that is next for the first centre
 abbrev begins : Exchanges → Asked → List ℕ
-begins x a = let b = begunBy x a in of (b .verdict) ++ b .place ∷ b .length ∷ b .serial ∷ b .state .next ∷ []
+begins x a = let b = begunBy x a in of (b .verdict) ++ b .place ∷ b .length ∷ b .serial ∷ nextAt (b .state) 0 ∷ []
 
 abbrev refused : ℕ → ℕ → List ℕ
 refused n next = of (refusal n 0) ++ 0 ∷ 0 ∷ 0 ∷ next ∷ []
 
 -- the unit of B under its command, and a table with a serial next
 abbrev send : Asked
-send = asked 2 (unitOf B)
+send = asked 0 2 (unitOf B)
 
 abbrev fromSerial : ℕ → Exchanges
-fromSerial n = let x : Exchanges = made 1 0 .state in record { places = x .places; next = n; timeout = 1; resends = 0 }
+fromSerial n =
+    record { places = fresh-table 1 0 .places; centres = centre first-address n ∷ centre second-address 0 ∷ []; timeout = 1; resends = 0 }
 
-abbrev full : Exchanges
-full =
+-- eight open for the first centre, and for the second as many as are said
+abbrev eight : List Place
+eight = map (λ (s : ℕ). place s SEND) (0 ∷ 1 ∷ 2 ∷ 3 ∷ 4 ∷ 5 ∷ 6 ∷ 7 ∷ [])
+
+abbrev full : ℕ → Exchanges
+full n =
     record {
-      places = map (λ (s : ℕ). place s SEND) (0 ∷ 1 ∷ 2 ∷ 3 ∷ 4 ∷ 5 ∷ 6 ∷ 7 ∷ 8 ∷ 9 ∷ 10 ∷ 11 ∷ 12 ∷ 13 ∷ 14 ∷ 15 ∷ []);
-      next = 16;
+      places = eight ++ (take n eight ++ replicate (8 - n) free);
+      centres = centre first-address 16 ∷ centre second-address 0 ∷ [];
       timeout = 1;
       resends = 0;
     }
 
 -- the unit of command 2 under which type 90 is TYPE; L 2,000 and no room; a good unit of type 1; an output of 38 bytes for a unit of 9
 abbrev clock : Asked
-clock = asked 2 (0x5A ∷ 0x01 ∷ 0x00 ∷ 0x1E ∷ 0x08 ∷ 0x0F ∷ 0x06 ∷ 0x18 ∷ [])
+clock = asked 0 2 (0x5A ∷ 0x01 ∷ 0x00 ∷ 0x1E ∷ 0x08 ∷ 0x0F ∷ 0x06 ∷ 0x18 ∷ [])
 
 abbrev long : ℕ → Asked
-long c = record { out = []; draft = draft c; size = 2000 }
+long c = record { centre = 0; out = []; draft = draft c; size = 2000 }
 
 abbrev states : Asked
-states = asked 5 (0x01 ∷ 0x01 ∷ 0x01 ∷ 0x02 ∷ 0x00 ∷ 0x00 ∷ 0x00 ∷ 0x1E ∷ 0x08 ∷ 0x0F ∷ 0x06 ∷ 0x18 ∷ [])
+states = asked 0 5 (0x01 ∷ 0x01 ∷ 0x01 ∷ 0x02 ∷ 0x00 ∷ 0x00 ∷ 0x00 ∷ 0x1E ∷ 0x08 ∷ 0x0F ∷ 0x06 ∷ 0x18 ∷ [])
 
 abbrev short : Asked
-short = record { out = take 38 (send .out); draft = send .draft; size = 9 }
+short = record { centre = 0; out = take 38 (send .out); draft = send .draft; size = 9 }
 
 abbrev request : Asked
-request = asked 4 (0x3D ∷ 0x01 ∷ 0x01 ∷ 0x02 ∷ [])
+request = asked 0 4 (0x3D ∷ 0x01 ∷ 0x01 ∷ 0x02 ∷ [])
 
 -- a table of these T and R after a beginning, and what the next tick tells of its sixteen places
 abbrev opened : ℕ → ℕ → Exchanges
-opened t r = begunBy (made t r .state) send .state
+opened t r = begunBy (fresh-table t r) send .state
 
 abbrev outcomes : Exchanges → List ℕ
 outcomes x = map (λ (r : Report). r .outcome) (ticking x .reports)
@@ -170,7 +175,7 @@ modes x = map (λ (p : Place). p .mode) (x .places)
 
 -- what is told of the first exchange of a table of these T and R, call by call, up to the call that ends it; and how often it is sent
 abbrev its : ℕ → ℕ → List Call → List Line
-its t r cs = life 0 (drop 1 (boxLog (made t r .state) (map own (begin send ∷ cs))))
+its t r cs = life 0 (drop 1 (boxLog (fresh-table t r) (map own (begin send ∷ cs))))
 
 abbrev told-of : ℕ → ℕ → List Call → List ℕ
 told-of t r cs = map (tells 0) (its t r cs)
@@ -178,9 +183,23 @@ told-of t r cs = map (tells 0) (its t r cs)
 abbrev sendings : ℕ → ℕ → List Call → ℕ
 sendings t r cs = 1 + count (resends 0) (its t r cs)
 
--- what is said, and what the documents say
-abbrev pub checked : List (List ℕ × List ℕ)
-checked =
+-- the second centre's beginning of B, and its packet's destination
+abbrev second : Asked
+second = asked 1 2 (unitOf B)
+
+abbrev destination : Exchanges → Asked → List ℕ
+destination x a = headerOf (begunOutput rows x (a .centre) (a .out) (a .draft) (a .size)) .destination
+
+-- serial 0 open with both centres, and a reply to it: the verdict's number, the place and the outcome, and the modes that are left
+abbrev both : Exchanges
+both = begunBy (begunBy (fresh-table 2 1) send .state) second .state
+
+abbrev replies : List ℕ → List ℕ
+replies a = let y = answered both a 0 ConfirmReply in y .verdict .number ∷ y .place ∷ y .outcome ∷ modes (y .state)
+
+-- what is said, and what the documents say: documents 01 and, of 02, Q-8
+abbrev checked-first : List (List ℕ × List ℕ)
+checked-first =
     -- "A: .., a good confirm. Sum 93."
     (ofPacket A, of good)
     ∷ (fieldsOf A .command ∷ [], commandFor Confirm ∷ [])
@@ -228,13 +247,13 @@ checked =
     ∷ (shown call-3, shows MORE 0 0 0 0 [])
     -- Document 02, Q-8: B begun where 6 is next is B
     ∷ (begins (fromSerial 6) send, of good ++ 0 ∷ 39 ∷ 6 ∷ 7 ∷ [])
-    ∷ (begunOutput rows (fromSerial 6) (send .out) (send .draft) (send .size), B)
+    ∷ (begunOutput rows (fromSerial 6) 0 (send .out) (send .draft) (send .size), B)
     -- next 65,535 and a write that is refused by TYPE, then a good one
     ∷ (begins (fromSerial 65535) clock, refused TYPE 65535)
     ∷ (begins (begunBy (fromSerial 65535) clock .state) send, of good ++ 0 ∷ 39 ∷ 65535 ∷ 0 ∷ [])
     -- STATE, FULL, then LENGTH, ROOM, COMMAND
-    ∷ (begins (made 0 0 .state) (long 9), refused STATE 0)
-    ∷ (begins full (long 2), refused FULL 16)
+    ∷ (begins (fresh-table 0 0) (long 9), refused STATE 0)
+    ∷ (begins (full 8) (long 2), refused FULL 16)
     ∷ (begins (fromSerial 6) (long 5), refused LENGTH 6)
     ∷ (begins (fromSerial 6) short, refused ROOM 6)
     ∷ (modes (begunBy (fromSerial 6) short .state), replicate 16 FREE)
@@ -242,22 +261,79 @@ checked =
     -- a request is open
     ∷ (begins (fromSerial 6) request, of good ++ 0 ∷ 34 ∷ 6 ∷ 7 ∷ [])
     ∷ (modes (begunBy (fromSerial 6) request .state), REQUEST ∷ replicate 15 FREE)
+    ∷ []
+
+-- how an exchange ends
+abbrev checked-ends : List (List ℕ × List ℕ)
+checked-ends =
     -- Document 02, Q-10: T 10, R 9, ticks only: failed at tick 100 after 10 sendings
-    ∷ (told-of 10 9 (replicate 101 tick), repeated 9 (replicate 9 NOTHING ++ RESENT ∷ []) ++ (replicate 9 NOTHING ++ FAILED ∷ []))
+    (told-of 10 9 (replicate 101 tick), repeated 9 (replicate 9 NOTHING ++ RESENT ∷ []) ++ (replicate 9 NOTHING ++ FAILED ∷ []))
     ∷ (length (its 10 9 (replicate 101 tick)) ∷ sendings 10 9 (replicate 101 tick) ∷ [], 100 ∷ 10 ∷ [])
     -- T 3, R 1, tick, tick, deny, tick, tick, tick: resent at the deny, failed at the fifth tick
-    ∷ (told-of 3 1 (tick ∷ tick ∷ reply 0 Deny ∷ tick ∷ tick ∷ tick ∷ tick ∷ []), NOTHING ∷ NOTHING ∷ RESENT ∷ NOTHING ∷ NOTHING ∷ FAILED ∷ [])
+    ∷ (told-of 3 1 (tick ∷ tick ∷ reply first-address 0 Deny ∷ tick ∷ tick ∷ tick ∷ tick ∷ []), NOTHING ∷ NOTHING ∷ RESENT ∷ NOTHING ∷ NOTHING ∷ FAILED ∷ [])
     -- T 1, R 0: failed at the first tick
     ∷ (told-of 1 0 (tick ∷ tick ∷ []), FAILED ∷ [])
     -- a deny at each call with R 9: failed at the tenth
-    ∷ (told-of 10 9 (replicate 11 (reply 0 Deny)), replicate 9 RESENT ++ FAILED ∷ [])
+    ∷ (told-of 10 9 (replicate 11 (reply first-address 0 Deny)), replicate 9 RESENT ++ FAILED ∷ [])
     ∷ []
 
-pub checked-so : map (λ (e : List ℕ × List ℕ). e .0) checked ≡ map (λ (e : List ℕ × List ℕ). e .1) checked
+-- the second centre
+abbrev checked-centres : List (List ℕ × List ℕ)
+checked-centres =
+    -- Document 02, Q-11: the second centre's first beginning: place 8, serial 0, its address as destination
+    (begins (fresh-table 2 1) second, of good ++ 8 ∷ 39 ∷ 0 ∷ 0 ∷ [])
+    ∷ (destination (fresh-table 2 1) second, second-address)
+    ∷ (destination (fresh-table 2 1) send, first-address)
+    -- eight open for the first: FULL for it, the second still begins
+    ∷ (begins (full 0) send, refused FULL 16)
+    ∷ (begins (full 0) second, of good ++ 8 ∷ 39 ∷ 0 ∷ 16 ∷ [])
+    -- centre 2: CENTRE, but STATE where the table breaks its rules
+    ∷ (begins (full 8) (asked 2 2 (unitOf B)), refused CENTRE 16)
+    ∷ (begins (fresh-table 0 0) (asked 2 2 (unitOf B)), refused STATE 0)
+    -- a confirm of serial 0 from the second's address frees place 8 alone, though place 0 is open under serial 0; one from neither address is STRAY
+    ∷ (replies second-address, 0 ∷ 8 ∷ CONFIRMED ∷ SEND ∷ replicate 15 FREE)
+    ∷ (replies neither, STRAY ∷ 0 ∷ NOTHING ∷ modes both)
+    -- addresses equal: SETTING at the making, STATE in a table
+    ∷ (of (made 2 1 neither neither .verdict), of (refusal SETTING 0))
+    ∷ (begins (blank 2 1 neither neither) send, refused STATE 0)
+    ∷ []
+
+-- all of them
+abbrev pub checked : List (List ℕ × List ℕ)
+checked = checked-first ++ (checked-ends ++ checked-centres)
+
+abbrev said : List ℕ × List ℕ → List ℕ
+said e = e .0
+
+abbrev written : List ℕ × List ℕ → List ℕ
+written e = e .1
+
+first-so : map said checked-first ≡ map written checked-first
 unfolding openedPacket unitPlace partBy judgedPacket judgedContent judgedUnder judgedUnit inOrder rowsOf table findRow textSize endOf walk timely judged
     inRanges firstFit anyFits lowFirst part total called answerBy sound every padTo first foundIn more noise hit onward stands reading readOn
     started judgedFrame summed ended unitLength whenThere room told packetOf made found begun begunVerdict begunOutput modeOf packetVerdict writtenPacket
     packetBytes headBytes bytesOf putAt ticking legal lowestFree isOpenAs twice allKeep areSound serialFor swept isOpen isZero holds keeps denied ticked
     eventLine packetLine shortLine lastLine line decimal decimalIn letters lettersIn loggedBy boxLine boxAfter lineOf after answered fitting fits replied tells
-    goesOn ends life count
-checked-so = refl
+    goesOn ends life count centreOf allSound same
+first-so = refl
+
+ends-so : map said checked-ends ≡ map written checked-ends
+unfolding openedPacket unitPlace partBy judgedPacket judgedContent judgedUnder judgedUnit inOrder rowsOf table findRow textSize endOf walk timely judged
+    inRanges firstFit anyFits lowFirst part total called answerBy sound every padTo first foundIn more noise hit onward stands reading readOn
+    started judgedFrame summed ended unitLength whenThere room told packetOf made found begun begunVerdict begunOutput modeOf packetVerdict writtenPacket
+    packetBytes headBytes bytesOf putAt ticking legal lowestFree isOpenAs twice allKeep areSound serialFor swept isOpen isZero holds keeps denied ticked
+    eventLine packetLine shortLine lastLine line decimal decimalIn letters lettersIn loggedBy boxLine boxAfter lineOf after answered fitting fits replied tells
+    goesOn ends life count centreOf allSound same
+ends-so = refl
+
+centres-so : map said checked-centres ≡ map written checked-centres
+unfolding openedPacket unitPlace partBy judgedPacket judgedContent judgedUnder judgedUnit inOrder rowsOf table findRow textSize endOf walk timely judged
+    inRanges firstFit anyFits lowFirst part total called answerBy sound every padTo first foundIn more noise hit onward stands reading readOn
+    started judgedFrame summed ended unitLength whenThere room told packetOf made found begun begunVerdict begunOutput modeOf packetVerdict writtenPacket
+    packetBytes headBytes bytesOf putAt ticking legal lowestFree isOpenAs twice allKeep areSound serialFor swept isOpen isZero holds keeps denied ticked
+    eventLine packetLine shortLine lastLine line decimal decimalIn letters lettersIn loggedBy boxLine boxAfter lineOf after answered fitting fits replied tells
+    goesOn ends life count centreOf allSound same
+centres-so = refl
+
+pub checked-so : map said checked ≡ map written checked
+checked-so = λ i. first-so i ++ (ends-so i ++ centres-so i)

@@ -14,10 +14,11 @@ use Rattle.exchange.specs.Begins.{unbegun}
 use Rattle.exchange.specs.Calls.{Asked, begunBy, Call, verdictOf, after}
 use Rattle.exchange.specs.declared.Begun.{Begun}
 use Rattle.exchange.specs.declared.Draft.{Draft}
+use Rattle.exchange.specs.declared.Address.{Address}
 use Rattle.exchange.specs.declared.Made.{Made}
 use Rattle.exchange.specs.declared.Replied.{Replied}
 use Rattle.exchange.specs.declared.Ticked.{Ticked}
-use Rattle.exchange.specs.Table.{blank, made, untold}
+use Rattle.exchange.specs.Table.{blank, made, untold, unticked}
 use Rattle.exchange.specs.Table as exchanges
 use Rattle.exchange.proofs.Changes.{refused-same, begin-refused, begin-unwritten, reply-refused, tick-refused}
 use Rattle.fields.specs.declared.Fields.{Fields}
@@ -36,7 +37,6 @@ use Rattle.output.proofs.Judging.{kept, roomy}
 use Rattle.packet.specs.declared.Header.{Header}
 use Rattle.place.specs.declared.Reply.{Reply}
 use Rattle.place.specs.declared.Reply.the-variants.{Confirm, Answer, Deny, BadAnswer}
-use Rattle.places.specs.Rows.{nothing}
 use Rattle.reading.specs.declared.Event.the-variants.{Refused}
 use Rattle.reading.specs.Values.{told}
 use Rattle.reading.specs.Finding.{first}
@@ -127,9 +127,9 @@ refused-due : (p : List ℕ) (t : Label) (out : List ℕ) → isGood (replyVerdi
 unfolding answered
 refused-due p t out e = simp e
 
-not-made : (t m : ℕ) → isGood (made t m .verdict) ≡ false → made t m .state ≡ blank 0 0
+not-made : (t m : ℕ) (a b : List ℕ) → isGood (made t m a b .verdict) ≡ false → made t m a b .state ≡ blank 0 0 (replicate 6 0) (replicate 6 0)
 unfolding made
-not-made t m e = simp e
+not-made t m a b e = simp e
 
 -- THE LIST: each call that a box links, whatever answer meets its contract.
 -- These take no state and are lent nothing to write in:
@@ -213,39 +213,42 @@ refused-answer-to κs p t out o r q e =
     (ap (λ (a : AnswerC). a .command) (q .0) ∙ refused-due (now p) t (now out) no, q .1 ∙ refused-reply (now p) t (now out) no)
 
 -- trawnosz_exchanges_fresh, which takes no state: "making a table: SETTING, with a table of zeros"
-pub refused-exchanges-fresh : (t m : ℕ) (r : Made) → exchanges-fresh.Post tt (t, (m, tt)) r (t, (m, tt))
-    → isGood (r .verdict) ≡ false → r .state ≡ blank 0 0
-refused-exchanges-fresh t m r p = subst (λ (b : Made). isGood (b .verdict) ≡ false → b .state ≡ blank 0 0) (sym p) (not-made t m)
+abbrev pub zeros : Exchanges
+zeros = blank 0 0 (replicate 6 0) (replicate 6 0)
+
+pub refused-exchanges-fresh : (t m : ℕ) (a b : Address) (r : Made) → exchanges-fresh.Post tt (t, (m, (a, (b, tt)))) r (t, (m, (a, (b, tt))))
+    → isGood (r .verdict) ≡ false → r .state ≡ zeros
+refused-exchanges-fresh t m a b r p = subst (λ (y : Made). isGood (y .verdict) ≡ false → y .state ≡ zeros) (sym p) (not-made t m (a .bytes) (b .bytes))
 
 -- trawnosz_begin_and_write: with the table that was given, zero for all else, and nothing written
-pub refused-begin-and-write : (κs : _) (x : Exchanges) (out o : RefT (List ℕ)) (d : Draft) (l : ℕ) (r : Begun)
-    → begin-and-write.Post κs (x, (out, (d, (l, tt)))) r (x, (o, (d, (l, tt))))
+pub refused-begin-and-write : (κs : _) (x : Exchanges) (n : ℕ) (out o : RefT (List ℕ)) (d : Draft) (l : ℕ) (r : Begun)
+    → begin-and-write.Post κs (x, (n, (out, (d, (l, tt))))) r (x, (n, (o, (d, (l, tt)))))
     → isGood (r .verdict) ≡ false → (r ≡ unbegun x (r .verdict)) × (now o ≡ now out)
-refused-begin-and-write κs x out o d l r p e =
-    let a : Asked = record { out = now out; draft = d; size = l } in
+refused-begin-and-write κs x n out o d l r p e =
+    let a : Asked = record { centre = n; out = now out; draft = d; size = l } in
     let no : isGood (begunBy x a .verdict) ≡ false = ap (λ (b : Begun). isGood (b .verdict)) (sym (p .0)) ∙ e in
     (p .0 ∙ begin-refused x a no ∙ ap (λ (b : Begun). unbegun x (b .verdict)) (sym (p .0)), p .1 ∙ begin-unwritten x a no)
 
 -- trawnosz_reply_confirm, trawnosz_reply_answer, trawnosz_reply_deny and trawnosz_reply_bad_answer
-not-replied : (x : Exchanges) (s : ℕ) (w : Reply) (r : Replied) → r ≡ exchanges.answered x s w
+not-replied : (x : Exchanges) (a : List ℕ) (s : ℕ) (w : Reply) (r : Replied) → r ≡ exchanges.answered x a s w
     → isGood (r .verdict) ≡ false → r ≡ untold x (r .verdict)
-not-replied x s w r p = subst (λ (b : Replied). isGood (b .verdict) ≡ false → b ≡ untold x (b .verdict)) (sym p) (reply-refused x s w)
+not-replied x a s w r p = subst (λ (b : Replied). isGood (b .verdict) ≡ false → b ≡ untold x (b .verdict)) (sym p) (reply-refused x a s w)
 
-pub refused-reply-confirm : (x : Exchanges) (s : ℕ) (r : Replied) → reply-confirm.Post tt (x, (s, tt)) r (x, (s, tt))
+pub refused-reply-confirm : (x : Exchanges) (a : Address) (s : ℕ) (r : Replied) → reply-confirm.Post tt (x, (a, (s, tt))) r (x, (a, (s, tt)))
     → isGood (r .verdict) ≡ false → r ≡ untold x (r .verdict)
-refused-reply-confirm x s r p = not-replied x s Confirm r p
+refused-reply-confirm x a s r p = not-replied x (a .bytes) s Confirm r p
 
-pub refused-reply-answer : (x : Exchanges) (s : ℕ) (r : Replied) → reply-answer.Post tt (x, (s, tt)) r (x, (s, tt))
+pub refused-reply-answer : (x : Exchanges) (a : Address) (s : ℕ) (r : Replied) → reply-answer.Post tt (x, (a, (s, tt))) r (x, (a, (s, tt)))
     → isGood (r .verdict) ≡ false → r ≡ untold x (r .verdict)
-refused-reply-answer x s r p = not-replied x s Answer r p
+refused-reply-answer x a s r p = not-replied x (a .bytes) s Answer r p
 
-pub refused-reply-deny : (x : Exchanges) (s : ℕ) (r : Replied) → reply-deny.Post tt (x, (s, tt)) r (x, (s, tt))
+pub refused-reply-deny : (x : Exchanges) (a : Address) (s : ℕ) (r : Replied) → reply-deny.Post tt (x, (a, (s, tt))) r (x, (a, (s, tt)))
     → isGood (r .verdict) ≡ false → r ≡ untold x (r .verdict)
-refused-reply-deny x s r p = not-replied x s Deny r p
+refused-reply-deny x a s r p = not-replied x (a .bytes) s Deny r p
 
-pub refused-reply-bad-answer : (x : Exchanges) (s : ℕ) (r : Replied) → reply-bad-answer.Post tt (x, (s, tt)) r (x, (s, tt))
+pub refused-reply-bad-answer : (x : Exchanges) (a : Address) (s : ℕ) (r : Replied) → reply-bad-answer.Post tt (x, (a, (s, tt))) r (x, (a, (s, tt)))
     → isGood (r .verdict) ≡ false → r ≡ untold x (r .verdict)
-refused-reply-bad-answer x s r p = not-replied x s BadAnswer r p
+refused-reply-bad-answer x a s r p = not-replied x (a .bytes) s BadAnswer r p
 
 -- trawnosz_take_packet: the table that was given, whether the packet is refused or the reply that it is
 pub refused-take-packet : (κs : _) (x : Exchanges) (p : RefT (List ℕ)) (r : Replied) → take-packet.Post κs (x, (p, tt)) r (x, (p, tt))
@@ -254,11 +257,8 @@ refused-take-packet κs x p r q =
     subst (λ (b : Replied). isGood (b .verdict) ≡ false → b ≡ untold x (b .verdict)) (sym q) (taken-kept rows x (now p))
 
 -- trawnosz_tick
-abbrev pub noTick : Exchanges → Verdict → Ticked
-noTick x v = record { verdict = v; reports = replicate 16 nothing; state = x }
-
-pub refused-tick : (x : Exchanges) (r : Ticked) → tick.Post tt (x, tt) r (x, tt) → isGood (r .verdict) ≡ false → r ≡ noTick x (r .verdict)
-refused-tick x r p = subst (λ (b : Ticked). isGood (b .verdict) ≡ false → b ≡ noTick x (b .verdict)) (sym p) (tick-refused x)
+pub refused-tick : (x : Exchanges) (r : Ticked) → tick.Post tt (x, tt) r (x, tt) → isGood (r .verdict) ≡ false → r ≡ unticked x (r .verdict)
+refused-tick x r p = subst (λ (b : Ticked). isGood (b .verdict) ≡ false → b ≡ unticked x (b .verdict)) (sym p) (tick-refused x)
 
 -- trawnosz_name and trawnosz_release: from 0 to 0, and nothing written
 pub refused-name : (κs : _) (n : ℕ) (out o : RefT (List ℕ)) (r : Part) → name.Post κs (n, (out, tt)) r (n, (o, tt))

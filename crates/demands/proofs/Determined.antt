@@ -5,6 +5,7 @@ use Rattle.octets.proofs.byte_at.Reads as octets-byte-at
 use Rattle.octets.proofs.two_at.Reads as octets-two-at
 use Rattle.octets.proofs.four_at.Reads as octets-four-at
 use Rattle.octets.proofs.six_at.Reads as octets-six-at
+use Rattle.octets.proofs.same_six.Reads as octets-same-six
 use Rattle.octets.proofs.two_bytes.Reads as octets-two-bytes
 use Rattle.octets.proofs.four_bytes.Reads as octets-four-bytes
 use Rattle.octets.proofs.signed.Reads as octets-signed
@@ -48,12 +49,9 @@ use Rattle.place.proofs.is_open.Reads as place-is-open
 use Rattle.place.proofs.awaits.Reads as place-awaits
 use Rattle.place.proofs.all_outcomes.Reads as place-all-outcomes
 use Rattle.place.proofs.Place.free.Reads as place-place-free
-use Rattle.place.proofs.Place.keeps.Reads as place-place-keeps
 use Rattle.place.proofs.Place.denied.Reads as place-place-denied
-use Rattle.place.proofs.Place.ticked.Reads as place-place-ticked
-use Rattle.place.proofs.Place.is_zero.Reads as place-place-is-zero
+use Rattle.place.proofs.Place.weight.Reads as place-place-weight
 use Rattle.place.proofs.Place.replied.Reads as place-place-replied
-use Rattle.places.proofs.are_sound.Reads as places-are-sound
 use Rattle.places.proofs.find_opening.Reads as places-find-opening
 use Rattle.places.proofs.after.Reads as places-after
 use Rattle.places.proofs.find_fitting.Reads as places-find-fitting
@@ -78,6 +76,9 @@ octets-four-at-determined κs x r s a b = a ∙ sym b
 
 pub octets-six-at-determined : (κs : _) (x : _) (r s : _) → octets-six-at.Post κs x r x → octets-six-at.Post κs x s x → r ≡ s
 octets-six-at-determined κs x r s a b = a ∙ sym b
+
+pub octets-same-six-determined : (κs : _) (x : _) (r s : _) → octets-same-six.Post κs x r x → octets-same-six.Post κs x s x → r ≡ s
+octets-same-six-determined κs x r s a b = a ∙ sym b
 
 pub octets-two-bytes-determined : (κs : _) (x : _) (r s : _) → octets-two-bytes.Post κs x r x → octets-two-bytes.Post κs x s x → r ≡ s
 octets-two-bytes-determined κs x r s a b = a ∙ sym b
@@ -205,23 +206,14 @@ place-awaits-determined κs x r s a b = a ∙ sym b
 pub place-place-free-determined : (κs : _) (x : _) (r s : _) → place-place-free.Post κs x r x → place-place-free.Post κs x s x → r ≡ s
 place-place-free-determined κs x r s a b = a ∙ sym b
 
-pub place-place-keeps-determined : (κs : _) (x : _) (r s : _) → place-place-keeps.Post κs x r x → place-place-keeps.Post κs x s x → r ≡ s
-place-place-keeps-determined κs x r s a b = a ∙ sym b
-
 pub place-place-denied-determined : (κs : _) (x : _) (r s : _) → place-place-denied.Post κs x r x → place-place-denied.Post κs x s x → r ≡ s
 place-place-denied-determined κs x r s a b = a ∙ sym b
 
-pub place-place-ticked-determined : (κs : _) (x : _) (r s : _) → place-place-ticked.Post κs x r x → place-place-ticked.Post κs x s x → r ≡ s
-place-place-ticked-determined κs x r s a b = a ∙ sym b
-
-pub place-place-is-zero-determined : (κs : _) (x : _) (r s : _) → place-place-is-zero.Post κs x r x → place-place-is-zero.Post κs x s x → r ≡ s
-place-place-is-zero-determined κs x r s a b = a ∙ sym b
+pub place-place-weight-determined : (κs : _) (x : _) (r s : _) → place-place-weight.Post κs x r x → place-place-weight.Post κs x s x → r ≡ s
+place-place-weight-determined κs x r s a b = a .1 ∙ sym (b .1)
 
 pub place-place-replied-determined : (κs : _) (x : _) (r s : _) → place-place-replied.Post κs x r x → place-place-replied.Post κs x s x → r ≡ s
 place-place-replied-determined κs x r s a b = a ∙ sym b
-
-pub places-are-sound-determined : (κs : _) (x : _) (r s : _) → places-are-sound.Post κs x r x → places-are-sound.Post κs x s x → r ≡ s
-places-are-sound-determined κs x r s a b = a ∙ sym b
 
 pub places-find-opening-determined : (κs : _) (x : _) (r s : _) → places-find-opening.Post κs x r x → places-find-opening.Post κs x s x → r ≡ s
 places-find-opening-determined κs x r s a b = a ∙ sym b

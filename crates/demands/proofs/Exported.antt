@@ -101,10 +101,10 @@ pub write-packet-determined : (κs : _) (out o o' : RefT (List ℕ)) (h : Header
     → write-packet.Post κs (out, (h, (l, tt))) r (o, (h, (l, tt))) → write-packet.Post κs (out, (h, (l, tt))) s (o', (h, (l, tt))) → (r ≡ s) × (now o ≡ now o')
 write-packet-determined κs out o o' h l r s a b = (a .0 ∙ sym (b .0), a .1 ∙ sym (b .1))
 
-pub begin-and-write-determined : (κs : _) (x : Exchanges) (out o o' : RefT (List ℕ)) (d : Draft) (l : ℕ) (r s : Begun)
-    → begin-and-write.Post κs (x, (out, (d, (l, tt)))) r (x, (o, (d, (l, tt)))) → begin-and-write.Post κs (x, (out, (d, (l, tt)))) s (x, (o', (d, (l, tt))))
-    → (r ≡ s) × (now o ≡ now o')
-begin-and-write-determined κs x out o o' d l r s a b = (a .0 ∙ sym (b .0), a .1 ∙ sym (b .1))
+pub begin-and-write-determined : (κs : _) (x : Exchanges) (n : ℕ) (out o o' : RefT (List ℕ)) (d : Draft) (l : ℕ) (r s : Begun)
+    → begin-and-write.Post κs (x, (n, (out, (d, (l, tt))))) r (x, (n, (o, (d, (l, tt)))))
+    → begin-and-write.Post κs (x, (n, (out, (d, (l, tt))))) s (x, (n, (o', (d, (l, tt))))) → (r ≡ s) × (now o ≡ now o')
+begin-and-write-determined κs x n out o o' d l r s a b = (a .0 ∙ sym (b .0), a .1 ∙ sym (b .1))
 
 pub write-packet-object-determined : (κs : _) (out o o' : RefT (List ℕ)) (l : ℕ) (k : ℕ) (f : Fields) (d : RefT (List ℕ)) (r s : Verdict)
     → write-packet-object.Post κs (out, (l, (k, (f, (d, tt))))) r (o, (l, (k, (f, (d, tt)))))

@@ -56,10 +56,10 @@ pub output-write-determined : (κs : _) (out o o' : RefT (List ℕ)) (h : Header
     → output-write.Post κs (out, (h, (l, tt))) r (o, (h, (l, tt))) → output-write.Post κs (out, (h, (l, tt))) s (o', (h, (l, tt))) → (r ≡ s) × (now o ≡ now o')
 output-write-determined κs out o o' h l r s a b = (a .0 ∙ sym (b .0), a .1 ∙ sym (b .1))
 
-pub exchange-exchanges-begin-and-write-determined : (κs : _) (x : Exchanges) (out o o' : RefT (List ℕ)) (d : Draft) (l : ℕ) (r s : Begun)
-    → exchange-exchanges-begin-and-write.Post κs (x, (out, (d, (l, tt)))) r (x, (o, (d, (l, tt))))
-    → exchange-exchanges-begin-and-write.Post κs (x, (out, (d, (l, tt)))) s (x, (o', (d, (l, tt)))) → (r ≡ s) × (now o ≡ now o')
-exchange-exchanges-begin-and-write-determined κs x out o o' d l r s a b = (a .0 ∙ sym (b .0), a .1 ∙ sym (b .1))
+pub exchange-exchanges-begin-and-write-determined : (κs : _) (x : Exchanges) (n : ℕ) (out o o' : RefT (List ℕ)) (d : Draft) (l : ℕ) (r s : Begun)
+    → exchange-exchanges-begin-and-write.Post κs (x, (n, (out, (d, (l, tt))))) r (x, (n, (o, (d, (l, tt)))))
+    → exchange-exchanges-begin-and-write.Post κs (x, (n, (out, (d, (l, tt))))) s (x, (n, (o', (d, (l, tt))))) → (r ≡ s) × (now o ≡ now o')
+exchange-exchanges-begin-and-write-determined κs x n out o o' d l r s a b = (a .0 ∙ sym (b .0), a .1 ∙ sym (b .1))
 
 pub output-write-object-determined : (κs : _) (out o o' : RefT (List ℕ)) (l : ℕ) (k : ℕ) (f : Fields) (d : RefT (List ℕ)) (r s : Verdict)
     → output-write-object.Post κs (out, (l, (k, (f, (d, tt))))) r (o, (l, (k, (f, (d, tt)))))

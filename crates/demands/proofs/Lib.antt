@@ -6,6 +6,7 @@ pub mod Demand2
 pub mod Demand2Exchanges
 pub mod BoxLogs
 pub mod AlwaysEnds
+pub mod TwoCentres
 pub mod Demand3
 pub mod DeviceTable
 pub mod Exported

@@ -15,70 +15,70 @@ use Rattle.exchange.specs.declared.Draft.{Draft}
 use Rattle.exchange.specs.declared.Exchanges.{Exchanges}
 use Rattle.exchange.specs.Before.{Left, inTwo}
 use Rattle.exchange.specs.Begins.{headed, modeOf, begunVerdict, begun, begunOutput}
-use Rattle.exchange.specs.Table.{found, entered}
+use Rattle.exchange.specs.Table.{addressAt, found, entered}
 use Rattle.exchange.proofs.Begins.{find-decides, opens-so, draft-decides, taken-by, begun-refused, begun-good, output-kept, output-written}
 
-module _ (rs : List Row) (x : Exchanges) (out : List ℕ) (d : Draft) (l : ℕ) where
+module _ (rs : List Row) (x : Exchanges) (c : ℕ) (out : List ℕ) (d : Draft) (l : ℕ) where
   -- the two calls, told what the command opens
   abbrev two : Left
-  two = inTwo rs x (modeOf (d .command)) out d l
+  two = inTwo rs x c (modeOf (d .command)) out d l
 
-  none : isGood (found x .verdict) ≡ false → two ≡ record { verdict = found x .verdict; state = x; out = out }
+  none : isGood (found x c .verdict) ≡ false → two ≡ record { verdict = found x c .verdict; state = x; out = out }
   unfolding inTwo
   none e = simp e
 
   abbrev second : Left
   second =
       record {
-        verdict = packetVerdict rs out (headed d (found x .serial)) l;
-        state = entered x (found x .place) (found x .serial) (modeOf (d .command));
-        out = writtenPacket rs out (headed d (found x .serial)) l;
+        verdict = packetVerdict rs out (headed x c d (found x c .serial)) l;
+        state = entered x c (found x c .place) (found x c .serial) (modeOf (d .command));
+        out = writtenPacket rs out (headed x c d (found x c .serial)) l;
       }
 
-  one : isGood (found x .verdict) ≡ true → two ≡ second
+  one : isGood (found x c .verdict) ≡ true → two ≡ second
   unfolding inTwo
   one g = simp g
 
   -- a command that opens nothing is always refused
-  pub others-refused : isOpen (modeOf (d .command)) ≡ false → isGood (begunVerdict rs x out d l) ≡ false
+  pub others-refused : isOpen (modeOf (d .command)) ≡ false → isGood (begunVerdict rs x c out d l) ≡ false
   others-refused o =
-      by-test (isGood (begunVerdict rs x out d l)) (λ g. absurd (true≢false (sym (taken-by rs x out d l g .opens) ∙ o))) (λ e. e)
+      by-test (isGood (begunVerdict rs x c out d l)) (λ g. absurd (true≢false (sym (taken-by rs x c out d l g .opens) ∙ o))) (λ e. e)
 
   module _ (o : isOpen (modeOf (d .command)) ≡ true) where
-    writer-decides : isGood (found x .verdict) ≡ true → packetVerdict rs out (headed d (found x .serial)) l ≡ begunVerdict rs x out d l
-    writer-decides g = sym (opens-so rs out d l (found x .serial) o) ∙ draft-decides rs x out d l g
+    writer-decides : isGood (found x c .verdict) ≡ true → packetVerdict rs out (headed x c d (found x c .serial)) l ≡ begunVerdict rs x c out d l
+    writer-decides g = sym (opens-so rs out d l (addressAt x c) (found x c .serial) o) ∙ draft-decides rs x c out d l g
 
     -- the verdict is the same
-    pub same-verdict : begunVerdict rs x out d l ≡ two .verdict
+    pub same-verdict : begunVerdict rs x c out d l ≡ two .verdict
     same-verdict =
-        by-test (isGood (found x .verdict))
+        by-test (isGood (found x c .verdict))
         (λ g. sym (ap (λ (y : Left). y .verdict) (one g) ∙ writer-decides g))
-        (λ e. sym (ap (λ (y : Left). y .verdict) (none e) ∙ find-decides rs x out d l e))
+        (λ e. sym (ap (λ (y : Left). y .verdict) (none e) ∙ find-decides rs x c out d l e))
 
     -- and so is the output
-    pub same-output : begunOutput rs x out d l ≡ two .out
+    pub same-output : begunOutput rs x c out d l ≡ two .out
     same-output =
-        by-test (isGood (found x .verdict))
+        by-test (isGood (found x c .verdict))
         (λ g.
-        by-test (isGood (begunVerdict rs x out d l))
-        (λ t. output-written rs x out d l t ∙ sym (ap (λ (y : Left). y .out) (one g)))
+        by-test (isGood (begunVerdict rs x c out d l))
+        (λ t. output-written rs x c out d l t ∙ sym (ap (λ (y : Left). y .out) (one g)))
         (λ e.
-        output-kept rs x out d l e
-        ∙ kept rs out (headed d (found x .serial)) l (ap isGood (writer-decides g) ∙ e)
+        output-kept rs x c out d l e
+        ∙ kept rs out (headed x c d (found x c .serial)) l (ap isGood (writer-decides g) ∙ e)
         ∙ sym (ap (λ (y : Left). y .out) (one g))))
-        (λ e. output-kept rs x out d l (ap isGood (sym (find-decides rs x out d l e)) ∙ e) ∙ sym (ap (λ (y : Left). y .out) (none e)))
+        (λ e. output-kept rs x c out d l (ap isGood (sym (find-decides rs x c out d l e)) ∙ e) ∙ sym (ap (λ (y : Left). y .out) (none e)))
 
     -- the table is the same where the packet was written, and where no place was found
-    pub same-written : isGood (begunVerdict rs x out d l) ≡ true → begun rs x out d l .state ≡ two .state
+    pub same-written : isGood (begunVerdict rs x c out d l) ≡ true → begun rs x c out d l .state ≡ two .state
     same-written t =
-        ap (λ (y : Begun). y .state) (begun-good rs x out d l t) ∙ sym (ap (λ (y : Left). y .state) (one (taken-by rs x out d l t .find)))
+        ap (λ (y : Begun). y .state) (begun-good rs x c out d l t) ∙ sym (ap (λ (y : Left). y .state) (one (taken-by rs x c out d l t .find)))
 
-    pub same-unfound : isGood (found x .verdict) ≡ false → begun rs x out d l .state ≡ two .state
+    pub same-unfound : isGood (found x c .verdict) ≡ false → begun rs x c out d l .state ≡ two .state
     same-unfound e =
-        ap (λ (y : Begun). y .state) (begun-refused rs x out d l (ap isGood (sym (find-decides rs x out d l e)) ∙ e))
+        ap (λ (y : Begun). y .state) (begun-refused rs x c out d l (ap isGood (sym (find-decides rs x c out d l e)) ∙ e))
         ∙ sym (ap (λ (y : Left). y .state) (none e))
 
     -- and where one was found and the packet refused, it left the place open, and now the table is as it came
-    pub refused-differs : isGood (found x .verdict) ≡ true → isGood (begunVerdict rs x out d l) ≡ false
-        → (two .state ≡ entered x (found x .place) (found x .serial) (modeOf (d .command))) × (begun rs x out d l .state ≡ x)
-    refused-differs g e = (ap (λ (y : Left). y .state) (one g), ap (λ (y : Begun). y .state) (begun-refused rs x out d l e))
+    pub refused-differs : isGood (found x c .verdict) ≡ true → isGood (begunVerdict rs x c out d l) ≡ false
+        → (two .state ≡ entered x c (found x c .place) (found x c .serial) (modeOf (d .command))) × (begun rs x c out d l .state ≡ x)
+    refused-differs g e = (ap (λ (y : Left). y .state) (one g), ap (λ (y : Begun). y .state) (begun-refused rs x c out d l e))

@@ -15,18 +15,18 @@ use Rattle.output.specs.Writing.{roomTests, packetVerdict, writtenPacket}
 use Rattle.output.proofs.Judging.{packet-roomy}
 use Rattle.packet.specs.declared.Header.{Header}
 use Rattle.place.specs.Rules.{FREE, SEND, REQUEST, isOpen}
-use Rattle.places.specs.Rows.{lowestFree}
+use Rattle.places.specs.Rows.{endOf}
 use Rattle.unit.specs.Units.{isCommand, judgedUnder}
 use Rattle.verdict.specs.declared.Verdict.{Verdict}
 use Rattle.verdict.specs.Orders.{Test, _or-else_, good, refusal, isGood, inOrder}
-use Rattle.verdict.specs.Refusals.{STATE, ROOM, LENGTH, COMMAND, TIME, FULL}
+use Rattle.verdict.specs.Refusals.{STATE, ROOM, LENGTH, COMMAND, TIME, FULL, CENTRE}
 use Rattle.verdict.proofs.Order.{passed, failed, joined, good-held, held-good, stays, goes-on}
 use Rattle.exchange.specs.declared.Begun.{Begun}
 use Rattle.exchange.specs.declared.Draft.{Draft}
 use Rattle.exchange.specs.declared.Exchanges.{Exchanges}
 use Rattle.exchange.specs.declared.Found.{Found}
 use Rattle.exchange.specs.Begins.{headedBy, headed, modeOf, openingTests, draftVerdict, begunVerdict, unbegun, begun, begunOutput}
-use Rattle.exchange.specs.Table.{legal, beginTests, found, entered}
+use Rattle.exchange.specs.Table.{addressAt, legal, lowestOf, beginTests, found, entered}
 
 -- the mode that a command opens
 module _ (c : ℕ) where
@@ -49,34 +49,37 @@ module _ (c : ℕ) where
 pub ruleset opening = (by-control, by-send, by-request, by-none)
 
 -- what the packet writer says of a draft: of one whose command opens an exchange its own verdict, of any other LENGTH, ROOM or COMMAND
-module _ (rs : List Row) (out : List ℕ) (d : Draft) (l s : ℕ) where
+module _ (rs : List Row) (out : List ℕ) (d : Draft) (l : ℕ) (to : List ℕ) (s : ℕ) where
   abbrev rest : Header → Verdict
   rest h = packetVerdict rs out h l
+
+  abbrev own : Header
+  own = headedBy d to s (d .command)
 
   abbrev command : Test
   command = isOpen (modeOf (d .command)) or-else COMMAND
 
-  pub opens-so : isOpen (modeOf (d .command)) ≡ true → inOrder (openingTests out d l) (rest (headed d s)) ≡ rest (headed d s)
+  pub opens-so : isOpen (modeOf (d .command)) ≡ true → inOrder (openingTests out d l) (rest own) ≡ rest own
   unfolding packetVerdict inOrder
   opens-so o =
-      joined (roomTests out l 30) (command ∷ []) (rest (headed d s))
-      ∙ ap (inOrder (roomTests out l 30)) (passed command [] (rest (headed d s)) o)
+      joined (roomTests out l 30) (command ∷ []) (rest own)
+      ∙ ap (inOrder (roomTests out l 30)) (passed command [] (rest own) o)
       ∙ by-test (isGood (inOrder (roomTests out l 30) good))
-      (λ g. goes-on (roomTests out l 30) (rest (headed d s)) refl g)
-      (λ b. stays (roomTests out l 30) (rest (headed d s)) b ∙ sym (stays (roomTests out l 30) _ b))
+      (λ g. goes-on (roomTests out l 30) (rest own) refl g)
+      (λ b. stays (roomTests out l 30) (rest own) b ∙ sym (stays (roomTests out l 30) _ b))
 
-  refused-so : isOpen (modeOf (d .command)) ≡ false → inOrder (openingTests out d l) (rest (headed d s)) ≡ rest (headedBy d s 0)
+  refused-so : isOpen (modeOf (d .command)) ≡ false → inOrder (openingTests out d l) (rest own) ≡ rest (headedBy d to s 0)
   unfolding packetVerdict inOrder
   refused-so o =
-      joined (roomTests out l 30) (command ∷ []) (rest (headed d s))
-      ∙ ap (inOrder (roomTests out l 30)) (failed command [] (rest (headed d s)) o)
+      joined (roomTests out l 30) (command ∷ []) (rest own)
+      ∙ ap (inOrder (roomTests out l 30)) (failed command [] (rest own) o)
 
   pub draft-judged : (c : ℕ) → c ≡ cond (isOpen (modeOf (d .command))) (d .command) 0
-      → packetVerdict rs out (headedBy d s c) l ≡ inOrder (openingTests out d l) (packetVerdict rs out (headed d s) l)
+      → packetVerdict rs out (headedBy d to s c) l ≡ inOrder (openingTests out d l) (packetVerdict rs out own l)
   draft-judged c e =
       by-test (isOpen (modeOf (d .command)))
-      (λ o. ap (λ (k : ℕ). rest (headedBy d s k)) (e ∙ simp o) ∙ sym (opens-so o))
-      (λ o. ap (λ (k : ℕ). rest (headedBy d s k)) (e ∙ simp o) ∙ sym (refused-so o))
+      (λ o. ap (λ (k : ℕ). rest (headedBy d to s k)) (e ∙ simp o) ∙ sym (opens-so o))
+      (λ o. ap (λ (k : ℕ). rest (headedBy d to s k)) (e ∙ simp o) ∙ sym (refused-so o))
 
 -- a command that opens an exchange is one of the six
 opens-command : (c : ℕ) → isOpen (modeOf c) ≡ true → isCommand c ≡ true
@@ -90,23 +93,24 @@ opens-command c = by-tests (eqb c 1) refl (eqb c 2) refl (eqb c 4) refl
     by-tests false e false f true g o = ap isCommand (eqb-true c 4 g)
     by-tests false e false f false g o = absurd (false≢true o)
 
--- the whole order as one table, then the unit under its command: "STATE, FULL, then the packet writer's; COMMAND also for 3, 5, 6"
-abbrev pub orderTests : Exchanges → List ℕ → Draft → ℕ → List Test
-orderTests x out d l =
+-- the whole order as one table, then the unit under its command: "STATE, FULL, then the packet writer's; COMMAND also for 3, 5, 6", with CENTRE after STATE
+abbrev pub orderTests : Exchanges → ℕ → List ℕ → Draft → ℕ → List Test
+orderTests x c out d l =
     (legal x or-else STATE)
-    ∷ (ltb (lowestFree (x .places) 0 16) 16 or-else FULL)
+    ∷ (ltb c 2 or-else CENTRE)
+    ∷ (ltb (lowestOf x c) (endOf c) or-else FULL)
     ∷ (leb l 1024 or-else LENGTH)
     ∷ (leb (30 + l) (length out) or-else ROOM)
     ∷ (isOpen (modeOf (d .command)) or-else COMMAND)
     ∷ (allowed (judged (d .label)) or-else TIME)
     ∷ []
 
-pub in-one-order : (rs : List Row) (x : Exchanges) (out : List ℕ) (d : Draft) (l : ℕ)
-    → begunVerdict rs x out d l ≡ inOrder (orderTests x out d l) (judgedUnder rs (d .command) (part out 27 (27 + l)))
+pub in-one-order : (rs : List Row) (x : Exchanges) (c : ℕ) (out : List ℕ) (d : Draft) (l : ℕ)
+    → begunVerdict rs x c out d l ≡ inOrder (orderTests x c out d l) (judgedUnder rs (d .command) (part out 27 (27 + l)))
 unfolding begunVerdict packetVerdict inOrder
-in-one-order rs x out d l =
+in-one-order rs x c out d l =
     ap
-    (λ (v : Verdict). cond (legal x) (cond (ltb (lowestFree (x .places) 0 16) 16) v (refusal FULL 0)) (refusal STATE 0))
+    (λ (v : Verdict). cond (legal x) (cond (ltb c 2) (cond (ltb (lowestOf x c) (endOf c)) v (refusal FULL 0)) (refusal CENTRE 0)) (refusal STATE 0))
     (by-tests (leb l 1024) (leb (30 + l) (length out)) (isOpen (modeOf (d .command))) refl (isCommand (d .command)) refl)
   where
     timed : Verdict
@@ -115,66 +119,66 @@ in-one-order rs x out d l =
     roomed : Bool → Bool → Verdict → Verdict
     roomed a b v = cond a (cond b v (refusal ROOM 0)) (refusal LENGTH 0)
 
-    by-tests : (a b o : Bool) → isOpen (modeOf (d .command)) ≡ o → (c : Bool) → isCommand (d .command) ≡ c
-        → roomed a b (cond o (roomed a b (cond c timed (refusal COMMAND 0))) (refusal COMMAND 0)) ≡ roomed a b (cond o timed (refusal COMMAND 0))
-    by-tests false b o p c q = refl
-    by-tests true false o p c q = refl
-    by-tests true true false p c q = refl
+    by-tests : (a b o : Bool) → isOpen (modeOf (d .command)) ≡ o → (k : Bool) → isCommand (d .command) ≡ k
+        → roomed a b (cond o (roomed a b (cond k timed (refusal COMMAND 0))) (refusal COMMAND 0)) ≡ roomed a b (cond o timed (refusal COMMAND 0))
+    by-tests false b o p k q = refl
+    by-tests true false o p k q = refl
+    by-tests true true false p k q = refl
     by-tests true true true p true q = refl
     by-tests true true true p false q = absurd (false≢true (sym q ∙ opens-command (d .command) p))
 
-module _ (rs : List Row) (x : Exchanges) (out : List ℕ) (d : Draft) (l : ℕ) where
+module _ (rs : List Row) (x : Exchanges) (c : ℕ) (out : List ℕ) (d : Draft) (l : ℕ) where
   -- the order by its two halves
-  pub find-decides : isGood (found x .verdict) ≡ false → found x .verdict ≡ begunVerdict rs x out d l
+  pub find-decides : isGood (found x c .verdict) ≡ false → found x c .verdict ≡ begunVerdict rs x c out d l
   unfolding begunVerdict found
-  find-decides e = sym (stays (beginTests x) (draftVerdict rs x out d l) e)
+  find-decides e = sym (stays (beginTests x c) (draftVerdict rs x c out d l) e)
 
-  pub draft-decides : isGood (found x .verdict) ≡ true → draftVerdict rs x out d l ≡ begunVerdict rs x out d l
+  pub draft-decides : isGood (found x c .verdict) ≡ true → draftVerdict rs x c out d l ≡ begunVerdict rs x c out d l
   unfolding begunVerdict found
-  draft-decides g = sym (goes-on (beginTests x) (draftVerdict rs x out d l) refl g)
+  draft-decides g = sym (goes-on (beginTests x c) (draftVerdict rs x c out d l) refl g)
 
   -- what a good verdict tells: a place is free, the command opens an exchange, and the packet writer takes the packet
   pub record Taken : Type 0 where
-    pub find : isGood (found x .verdict) ≡ true
+    pub find : isGood (found x c .verdict) ≡ true
     pub opens : isOpen (modeOf (d .command)) ≡ true
-    pub writes : isGood (packetVerdict rs out (headed d (found x .serial)) l) ≡ true
+    pub writes : isGood (packetVerdict rs out (headed x c d (found x c .serial)) l) ≡ true
 
-  pub taken-by : isGood (begunVerdict rs x out d l) ≡ true → Taken
+  pub taken-by : isGood (begunVerdict rs x c out d l) ≡ true → Taken
   unfolding begunVerdict found
   taken-by g =
-      let a = good-held (beginTests x) (draftVerdict rs x out d l) refl g in
-      let b = good-held (openingTests out d l) (packetVerdict rs out (headed d (found x .serial)) l) refl (a .1) in
-      record { find = held-good (beginTests x) (a .0); opens = b .0 .1 .1 .0; writes = b .1 }
+      let a = good-held (beginTests x c) (draftVerdict rs x c out d l) refl g in
+      let b = good-held (openingTests out d l) (packetVerdict rs out (headed x c d (found x c .serial)) l) refl (a .1) in
+      record { find = held-good (beginTests x c) (a .0); opens = b .0 .1 .1 .0; writes = b .1 }
 
-  pub taken-good : Taken → begunVerdict rs x out d l ≡ packetVerdict rs out (headed d (found x .serial)) l
-  taken-good t = sym (draft-decides (t .find)) ∙ opens-so rs out d l (found x .serial) (t .opens)
+  pub taken-good : Taken → begunVerdict rs x c out d l ≡ packetVerdict rs out (headed x c d (found x c .serial)) l
+  taken-good t = sym (draft-decides (t .find)) ∙ opens-so rs out d l (addressAt x c) (found x c .serial) (t .opens)
 
   -- the answer and the output
-  pub begun-refused : isGood (begunVerdict rs x out d l) ≡ false → begun rs x out d l ≡ unbegun x (begunVerdict rs x out d l)
+  pub begun-refused : isGood (begunVerdict rs x c out d l) ≡ false → begun rs x c out d l ≡ unbegun x (begunVerdict rs x c out d l)
   unfolding begun
   begun-refused e = simp e
 
-  pub output-kept : isGood (begunVerdict rs x out d l) ≡ false → begunOutput rs x out d l ≡ out
+  pub output-kept : isGood (begunVerdict rs x c out d l) ≡ false → begunOutput rs x c out d l ≡ out
   unfolding begunOutput
   output-kept e = simp e
 
   abbrev pub opening-at : Verdict → Found → Begun
   opening-at v f =
-      record { verdict = v; place = f .place; length = 30 + l; serial = f .serial; state = entered x (f .place) (f .serial) (modeOf (d .command)) }
+      record { verdict = v; place = f .place; length = 30 + l; serial = f .serial; state = entered x c (f .place) (f .serial) (modeOf (d .command)) }
 
-  pub begun-good : isGood (begunVerdict rs x out d l) ≡ true → begun rs x out d l ≡ opening-at (begunVerdict rs x out d l) (found x)
+  pub begun-good : isGood (begunVerdict rs x c out d l) ≡ true → begun rs x c out d l ≡ opening-at (begunVerdict rs x c out d l) (found x c)
   unfolding begun
   begun-good g = simp g
 
-  pub output-written : isGood (begunVerdict rs x out d l) ≡ true → begunOutput rs x out d l ≡ writtenPacket rs out (headed d (found x .serial)) l
+  pub output-written : isGood (begunVerdict rs x c out d l) ≡ true → begunOutput rs x c out d l ≡ writtenPacket rs out (headed x c d (found x c .serial)) l
   unfolding begunOutput
   output-written g = simp g
 
-  pub begun-verdict : begun rs x out d l .verdict ≡ begunVerdict rs x out d l
+  pub begun-verdict : begun rs x c out d l .verdict ≡ begunVerdict rs x c out d l
   begun-verdict =
-      by-test (isGood (begunVerdict rs x out d l))
+      by-test (isGood (begunVerdict rs x c out d l))
       (λ g. ap (λ (y : Begun). y .verdict) (begun-good g))
       (λ e. ap (λ (y : Begun). y .verdict) (begun-refused e))
 
-  pub begun-few : isGood (begunVerdict rs x out d l) ≡ true → l ≤ 1024
-  begun-few g = packet-roomy rs out (headed d (found x .serial)) l (taken-by g .writes) .0
+  pub begun-few : isGood (begunVerdict rs x c out d l) ≡ true → l ≤ 1024
+  begun-few g = packet-roomy rs out (headed x c d (found x c .serial)) l (taken-by g .writes) .0

@@ -1,19 +1,22 @@
 -- What each way out of a call hands back, from what its own calls told on the way there. Assumes nothing.
-use Prim.Native.Nat.{ℕ, _+_, _<_}
+use Prim.Native.Nat.{ℕ, _+_, _≤_, _<_}
 use native.Mathlib.Omega.{arith}
-use mathlib.Core.Bool.{Bool, true, false, not, cond}
-use mathlib.Core.List.{List}
-use mathlib.Core.Path.{_≡_, sym, ap, subst⁻¹, _∙_}
+use mathlib.Core.Bool.{Bool, true, false, not, cond, _&&_, and-false}
+use mathlib.Core.List.{List, [], _∷_, map}
+use mathlib.Core.Path.{_≡_, refl, sym, ap, subst⁻¹, _∙_}
 use mir.Syntax.{w64}
 use mir.Val.{Fits}
+use borrow.Author.Tests.{le-leb, lt-leb}
+use lib.Dec.{leb}
 use lib.ListN.{set, replicate}
+use Rattle.octets.specs.Searches.{firstFit, same}
 use Rattle.octets.proofs.Flags.{on, off}
 use Rattle.kinds.specs.Table.{rows}
 use Rattle.output.specs.Writing.{packetVerdict, writtenPacket}
 use Rattle.output.proofs.Judging.{kept}
 use Rattle.packet.specs.declared.Header.{Header}
 use Rattle.verdict.specs.declared.Verdict.{Verdict}
-use Rattle.verdict.specs.Refusals.{STATE, SETTING, FULL, STRAY}
+use Rattle.verdict.specs.Refusals.{STATE, SETTING, FULL, STRAY, CENTRE}
 use Rattle.verdict.specs.Orders.{good, refusal, isGood}
 use Rattle.place.specs.declared.Reply.{Reply}
 use Rattle.place.specs.declared.Step.{Step}
@@ -21,10 +24,11 @@ use Rattle.place.specs.Rules.{free, opened, isOpen}
 use Rattle.place.specs.declared.Place.{Place}
 use Rattle.place.specs.Steps.{NOTHING, replied}
 use Rattle.places.specs.declared.Search.{Search}
-use Rattle.places.specs.declared.Search.the-variants.{Broken, Nothing, At}
+use Rattle.places.specs.declared.Search.the-variants.{Broken, Outside, Nothing, At}
 use Rattle.places.specs.declared.Swept.{Swept}
-use Rattle.places.specs.Rows.{placeAt, areSound, opening, reached, upward, fitting, nothing, swept}
-use Rattle.places.proofs.Sought.{is-broken, is-nothing, is-at}
+use Rattle.places.specs.Rows.{placeAt, serialFor, lowOf, endOf, allSound, opening, reached, upward, aged, report, nothing, unswept, swept}
+use Rattle.places.proofs.Sought.{is-broken, is-outside, is-nothing, is-at}
+use Rattle.exchange.specs.declared.Address.{Address}
 use Rattle.exchange.specs.declared.Exchanges.{Exchanges}
 use Rattle.exchange.specs.declared.Draft.{Draft}
 use Rattle.exchange.specs.declared.Made.{Made}
@@ -33,69 +37,152 @@ use Rattle.exchange.specs.declared.Begun.{Begun}
 use Rattle.exchange.specs.declared.Replied.{Replied}
 use Rattle.exchange.specs.declared.Ticked.{Ticked}
 use Rattle.exchange.specs.Begins.{headedBy, modeOf, begunVerdict, unbegun, begun, begunOutput}
-use Rattle.exchange.specs.Table.{inRange, legal, made, unfound, found, entered, placed, stepped, untold, answered, ticking}
-use Rattle.exchange.proofs.Answers.{made-refused, made-good, found-state, found-full, found-good, found-place}
+use Rattle.exchange.specs.Table.{centreAt, addressAt, nextAt, centreOf, settled, legal, blank, made, unfound, found, entered, placed, fittingOf, stepped, untold, answered, unticked, ticking}
+use Rattle.exchange.proofs.Answers.{made-refused, made-good, found-state, found-outside, found-full, found-good, Inside, found-inside}
+use Rattle.exchange.proofs.Answers.{answered-state, answered-outside, answered-stray, answered-good, ticking-state, ticking-by, after-tick}
 use Rattle.exchange.proofs.Begins.{draft-judged, find-decides, draft-decides, taken-by, begun-refused, output-kept, opening-at, begun-good, output-written, begun-few}
-use Rattle.exchange.proofs.Answers.{answered-state, answered-stray, answered-good, ticking-state, ticking-good, after-tick}
 
--- whether a state keeps its rules
-module _ (x : Exchanges) (ranged : Bool) (r : ranged ≡ inRange (x .timeout) (x .resends)) where
-  pub out-of-range : not ranged ≡ true → false ≡ legal x
+-- settings and addresses, of which a state that keeps the rules keeps its own
+module _ (t r : ℕ) (a b : List ℕ) where
+  pub too-short : t < 1 → false ≡ settled t r a b
+  too-short h = simp (lt-leb 1 t h)
+
+  pub too-long : 10 < t → false ≡ settled t r a b
+  too-long h = sym (ap (λ (f : Bool). f && leb r 9 && not (same a b)) (ap (λ (f : Bool). leb 1 t && f) (lt-leb t 10 h) ∙ and-false (leb 1 t)))
+
+  pub too-many : 9 < r → false ≡ settled t r a b
+  too-many h = sym (ap (λ (f : Bool). f && not (same a b)) (ap (λ (f : Bool). leb 1 t && leb t 10 && f) (lt-leb r 9 h) ∙ and-false (leb 1 t && leb t 10)))
+
+  pub addresses-decide : (e : Bool) → 1 ≤ t → t ≤ 10 → r ≤ 9 → e ≡ same a b → not e ≡ settled t r a b
+  addresses-decide e h k l q = ap not q ∙ sym (simp (le-leb 1 t h, le-leb t 10 k, le-leb r 9 l))
+
+pub ruleset settling = (too-short, too-long, too-many, addresses-decide)
+
+-- the centre that has an address: a and b are those of the two
+module _ (x : Exchanges) (a : List ℕ) where
+  pub is-first : (e : Bool) → e ≡ same (addressAt x 0) a → e ≡ true → 0 ≡ centreOf x a
+  unfolding centreOf firstFit
+  is-first e q t = simp (sym q ∙ t)
+
+  module _ (e : Bool) (q : e ≡ same (addressAt x 0) a) (n : e ≡ false) where
+    pub is-second : (f : Bool) → f ≡ same (addressAt x 1) a → f ≡ true → 1 ≡ centreOf x a
+    unfolding centreOf firstFit
+    is-second f p t = simp (sym q ∙ n, sym p ∙ t)
+
+    pub is-neither : (f : Bool) → f ≡ same (addressAt x 1) a → f ≡ false → 2 ≡ centreOf x a
+    unfolding centreOf firstFit
+    is-neither f p t = simp (sym q ∙ n, sym p ∙ t)
+
+pub ruleset placing = (is-first, is-second, is-neither)
+
+-- the serial to try first, where there is such a centre
+pub no-next : (x : Exchanges) (c n : ℕ) → 2 ≤ c → c < 2 → n ≡ nextAt x c
+no-next x c n h k = absurd (omega arith)
+
+-- whether a state keeps its rules: o is whether its settings and addresses do
+module _ (x : Exchanges) (o : Bool) (r : o ≡ settled (x .timeout) (x .resends) (addressAt x 0) (addressAt x 1)) where
+  unsettled : not o ≡ true → legal x ≡ false
   unfolding legal
-  out-of-range n = simp (off r n)
+  unsettled n = simp (off r n)
 
-  pub places-decide : (sound : Bool) → not ranged ≡ false → sound ≡ areSound (x .timeout) (x .resends) (x .places) 0 16 → sound ≡ legal x
+  legal-as : not o ≡ false → (b : Bool) → allSound (x .timeout) (x .resends) (x .places) ≡ b → legal x ≡ b
   unfolding legal
-  places-decide sound n e = e ∙ simp (on r n)
+  legal-as n b e = simp (on r n) e
 
-  legal-as : not ranged ≡ false → (b : Bool) → areSound (x .timeout) (x .resends) (x .places) 0 16 ≡ b → legal x ≡ b
-  legal-as n b e = sym (places-decide b n (sym e))
+  -- finding a place and a serial: f is what is handed back, q what the places told
+  module _ (c : ℕ) where
+    pub find-unset : (f : Found) → not o ≡ true → f ≡ unfound STATE → f ≡ found x c
+    find-unset f n e = e ∙ sym (found-state x c (unsettled n))
 
-  -- finding a place and a serial: f is what is handed back, o what the places told
-  pub find-unset : (f : Found) → not ranged ≡ true → f ≡ unfound STATE → f ≡ found x
-  find-unset f n e = e ∙ sym (found-state x (sym (out-of-range n)))
+    module _ (n : not o ≡ false) (q : Search) (next : ℕ) (its : c < 2 → next ≡ nextAt x c) (told : q ≡ opening (x .timeout) (x .resends) (x .places) c next) where
+      pub find-broken : (f : Found) → q ≡ Broken → f ≡ unfound STATE → f ≡ found x c
+      find-broken f p e = e ∙ sym (found-state x c (legal-as n false (is-broken (x .timeout) (x .resends) (x .places) c _ _ (sym p ∙ told))))
 
-  module _ (n : not ranged ≡ false) (o : Search) (told : o ≡ opening (x .timeout) (x .resends) (x .places) 0 16 (x .next)) where
-    pub find-broken : (f : Found) → o ≡ Broken → f ≡ unfound STATE → f ≡ found x
-    find-broken f q e = e ∙ sym (found-state x (legal-as n false (is-broken (x .timeout) (x .resends) (x .places) 0 16 _ _ (sym q ∙ told))))
+      pub find-outside : (f : Found) → q ≡ Outside → f ≡ unfound CENTRE → f ≡ found x c
+      find-outside f p e =
+          let is = is-outside (x .timeout) (x .resends) (x .places) c _ _ (sym p ∙ told) in
+          e ∙ sym (found-outside x c (legal-as n true (is .0)) (is .1))
 
-    pub find-full : (f : Found) → o ≡ Nothing → f ≡ unfound FULL → f ≡ found x
-    find-full f q e =
-        let is = is-nothing (x .timeout) (x .resends) (x .places) 0 16 _ _ (sym q ∙ told) in
-        e ∙ sym (found-full x (legal-as n true (is .0)) (is .1))
+      pub find-full : (f : Found) → q ≡ Nothing → f ≡ unfound FULL → f ≡ found x c
+      find-full f p e =
+          let is = is-nothing (x .timeout) (x .resends) (x .places) c _ _ (sym p ∙ told) in
+          e ∙ sym (found-full x c (legal-as n true (is .0)) (is .1) (is .2))
 
-    pub find-good : (v : Verdict) (k s : ℕ) → o ≡ At k s → v ≡ good → _≡_ {A = Found} (record { verdict = v; place = k; serial = s }) (found x)
-    find-good v k s q e =
-        let is = is-at (x .timeout) (x .resends) (x .places) 0 16 _ _ k s (sym q ∙ told) in
-        (λ i. record { verdict = e i; place = is .2 i; serial = is .3 i }) ∙ sym (found-good x (legal-as n true (is .0)) (is .1))
+      pub find-good : (v : Verdict) (k s : ℕ) → q ≡ At k s → v ≡ good → _≡_ {A = Found} (record { verdict = v; place = k; serial = s }) (found x c)
+      find-good v k s p e =
+          let is = is-at (x .timeout) (x .resends) (x .places) c _ _ k s (sym p ∙ told) in
+          (λ i. record { verdict = e i; place = is .3 i; serial = (is .4 ∙ ap (serialFor (x .places) (lowOf c) (endOf c)) (its (is .1))) i }) ∙ sym (found-good x c (legal-as n true (is .0)) (is .1) (is .2))
 
-pub ruleset keeping = (out-of-range, places-decide)
+  -- a reply: y is what is handed back, f what the places told, c the centre that has its address
+  module _ (a : List ℕ) (s : ℕ) (w : Reply) where
+    pub reply-unset : (y : Replied) → not o ≡ true → y ≡ untold x (refusal STATE 0) → y ≡ answered x a s w
+    reply-unset y n e = e ∙ sym (answered-state x a s w (unsettled n))
 
-pub ruleset finding = (find-unset, find-broken, find-full, find-good)
+    module _ (n : not o ≡ false) (f : Search) (c : ℕ) (its : c ≡ centreOf x a) (told : f ≡ reached (x .timeout) (x .resends) (x .places) c s w) where
+      own : f ≡ reached (x .timeout) (x .resends) (x .places) (centreOf x a) s w
+      own = told ∙ ap (λ (d : ℕ). reached (x .timeout) (x .resends) (x .places) d s w) its
 
--- a reply: a is what is handed back, f what the places told
-module _ (x : Exchanges) (s : ℕ) (w : Reply) (ranged : Bool) (r : ranged ≡ inRange (x .timeout) (x .resends)) where
-  pub reply-unset : (a : Replied) → not ranged ≡ true → a ≡ untold x (refusal STATE 0) → a ≡ answered x s w
-  reply-unset a n e = e ∙ sym (answered-state x s w (sym (out-of-range x ranged r n)))
+      pub reply-broken : (y : Replied) → f ≡ Broken → y ≡ untold x (refusal STATE 0) → y ≡ answered x a s w
+      reply-broken y q e =
+          e ∙ sym (answered-state x a s w (legal-as n false (is-broken (x .timeout) (x .resends) (x .places) (centreOf x a) _ _ (sym q ∙ own))))
 
-  module _ (n : not ranged ≡ false) (f : Search) (told : f ≡ reached (x .timeout) (x .resends) (x .places) 0 16 s w) where
-    pub reply-broken : (a : Replied) → f ≡ Broken → a ≡ untold x (refusal STATE 0) → a ≡ answered x s w
-    reply-broken a q e = e ∙ sym (answered-state x s w (legal-as x ranged r n false (is-broken (x .timeout) (x .resends) (x .places) 0 16 _ _ (sym q ∙ told))))
+      pub reply-outside : (y : Replied) → f ≡ Outside → y ≡ untold x (refusal STRAY 0) → y ≡ answered x a s w
+      reply-outside y q e =
+          let is = is-outside (x .timeout) (x .resends) (x .places) (centreOf x a) _ _ (sym q ∙ own) in
+          e ∙ sym (answered-outside x a s w (legal-as n true (is .0)) (is .1))
 
-    pub reply-stray : (a : Replied) → f ≡ Nothing → a ≡ untold x (refusal STRAY 0) → a ≡ answered x s w
-    reply-stray a q e =
-        let is = is-nothing (x .timeout) (x .resends) (x .places) 0 16 _ _ (sym q ∙ told) in
-        e ∙ sym (answered-stray x s w (legal-as x ranged r n true (is .0)) (is .1))
+      pub reply-stray : (y : Replied) → f ≡ Nothing → y ≡ untold x (refusal STRAY 0) → y ≡ answered x a s w
+      reply-stray y q e =
+          let is = is-nothing (x .timeout) (x .resends) (x .places) (centreOf x a) _ _ (sym q ∙ own) in
+          e ∙ sym (answered-stray x a s w (legal-as n true (is .0)) (is .1) (is .2))
 
-    module _ (k y : ℕ) (q : f ≡ At k y) where
-      at : (areSound (x .timeout) (x .resends) (x .places) 0 16 ≡ true) × (fitting (x .places) 0 16 s w < 16) × (k ≡ fitting (x .places) 0 16 s w) × (y ≡ s)
-      at = is-at (x .timeout) (x .resends) (x .places) 0 16 _ _ k y (sym q ∙ told)
+      module _ (k z : ℕ) (q : f ≡ At k z) where
+        at : (allSound (x .timeout) (x .resends) (x .places) ≡ true) × (centreOf x a < 2) × (fittingOf x (centreOf x a) s w < endOf (centreOf x a))
+            × (k ≡ fittingOf x (centreOf x a) s w) × (z ≡ s)
+        at = is-at (x .timeout) (x .resends) (x .places) (centreOf x a) _ _ k z (sym q ∙ own)
 
-      pub reply-inside : k < 16
-      reply-inside = omega (arith, at .1, at .2)
+        pub reply-inside : k < 16
+        reply-inside = omega (arith, at .1, at .2, at .3)
 
-      pub reply-good : (a : Replied) → a ≡ stepped x k w → a ≡ answered x s w
-      reply-good a e = e ∙ ap (λ (j : ℕ). stepped x j w) (at .2) ∙ sym (answered-good x s w (legal-as x ranged r n true (at .0)) (at .1))
+        pub reply-good : (y : Replied) → y ≡ stepped x k w → y ≡ answered x a s w
+        reply-good y e = e ∙ ap (λ (j : ℕ). stepped x j w) (at .3) ∙ sym (answered-good x a s w (legal-as n true (at .0)) (at .1) (at .2))
+
+  -- the tick: y is what is handed back where it is refused, all what the places told
+  pub tick-unset : (y : Ticked) → not o ≡ true → y ≡ unticked x (refusal STATE 0) → y ≡ ticking x
+  tick-unset y n e = e ∙ sym (ticking-state x (unsettled n))
+
+  module _ (n : not o ≡ false) (all : Swept) (told : all ≡ swept (x .timeout) (x .resends) (x .places)) where
+    sound-is : all .sound ≡ allSound (x .timeout) (x .resends) (x .places)
+    unfolding swept
+    sound-is = ap (λ (y : Swept). y .sound) told ∙ by-flag (allSound (x .timeout) (x .resends) (x .places))
+      where
+        step : Swept
+        step =
+            record {
+              sound = true;
+              places = map (aged (x .timeout) (x .resends)) (x .places);
+              reports = map (report (x .timeout) (x .resends)) (x .places);
+            }
+
+        by-flag : (b : Bool) → cond b step (unswept (x .places)) .sound ≡ b
+        by-flag true = refl
+        by-flag false = refl
+
+    pub tick-broken : (y : Ticked) → not (all .sound) ≡ true → y ≡ unticked x (refusal STATE 0) → y ≡ ticking x
+    tick-broken y m e = e ∙ sym (ticking-state x (legal-as n false (off sound-is m)))
+
+    pub tick-good : (v : Verdict) → not (all .sound) ≡ false → v ≡ good
+        → _≡_ {A = Ticked} (record { verdict = v; reports = all .reports; state = placed x (all .places) }) (ticking x)
+    tick-good v m e =
+        ap (λ (u : Verdict). record { verdict = u; reports = all .reports; state = placed x (all .places) }) e
+        ∙ ap (after-tick x) told
+        ∙ sym (ticking-by x (legal-as n true (on sound-is m)))
+
+pub ruleset finding = (find-unset, find-broken, find-outside, find-full, find-good)
+
+pub ruleset replying = (reply-unset, reply-broken, reply-outside, reply-stray, reply-inside, reply-good)
+
+pub ruleset ticked = (tick-unset, tick-broken, tick-good)
 
 -- the step of a place
 pub step-so : (x : Exchanges) (k : ℕ) (w : Reply) (v : Verdict) (step : Step) → v ≡ good → step ≡ replied (x .resends) w (placeAt (x .places) k)
@@ -109,40 +196,51 @@ no-reply x v n e = ap (λ (u : Verdict). record { verdict = u; place = 0; outcom
 pub none-so : (v : Verdict) (n : ℕ) → v ≡ refusal n 0 → _≡_ {A = Found} (record { verdict = v; place = 0; serial = 0 }) (unfound n)
 none-so v n e = ap (λ (w : Verdict). record { verdict = w; place = 0; serial = 0 }) e
 
--- a fresh table
-module _ (t m : ℕ) (ranged : Bool) (told : ranged ≡ inRange t m) (v : Verdict) (p : Place) (f : p ≡ free) where
-  pub fresh-refused : not ranged ≡ true → v ≡ refusal SETTING 0
-      → _≡_ {A = Made} (record { verdict = v; state = record { places = replicate 16 p; next = 0; timeout = 0; resends = 0 } }) (made t m)
-  fresh-refused n e =
-      (λ i. record { verdict = e i; state = record { places = replicate 16 (f i); next = 0; timeout = 0; resends = 0 } })
-      ∙ sym (made-refused t m (off told n))
+pub no-tick : (x : Exchanges) (v : Verdict) → v ≡ refusal STATE 0
+    → _≡_ {A = Ticked} (record { verdict = v; reports = replicate 16 nothing; state = x }) (unticked x (refusal STATE 0))
+no-tick x v e = ap (unticked x) e
 
-  pub fresh-good : not ranged ≡ false → v ≡ good
-      → _≡_ {A = Made} (record { verdict = v; state = record { places = replicate 16 p; next = 0; timeout = t; resends = m } }) (made t m)
-  fresh-good n e =
-      (λ i. record { verdict = e i; state = record { places = replicate 16 (f i); next = 0; timeout = t; resends = m } })
-      ∙ sym (made-good t m (on told n))
+-- a fresh table
+pub blank-so : (t r : ℕ) (a b : Address) (p : Place) → p ≡ free
+    → _≡_ {A = Exchanges}
+    (record { places = replicate 16 p; centres = record { address = a; next = 0 } ∷ record { address = b; next = 0 } ∷ []; timeout = t; resends = r })
+    (blank t r (a .bytes) (b .bytes))
+blank-so t r a b p f =
+    ap
+    (λ (q : Place).
+    record { places = replicate 16 q; centres = record { address = a; next = 0 } ∷ record { address = b; next = 0 } ∷ []; timeout = t; resends = r })
+    f
+
+module _ (t m : ℕ) (a b : List ℕ) (o : Bool) (told : o ≡ settled t m a b) (v : Verdict) (x : Exchanges) where
+  pub fresh-refused : not o ≡ true → v ≡ refusal SETTING 0 → x ≡ blank 0 0 (replicate 6 0) (replicate 6 0)
+      → _≡_ {A = Made} (record { verdict = v; state = x }) (made t m a b)
+  fresh-refused n e q = (λ i. record { verdict = e i; state = q i }) ∙ sym (made-refused t m a b (off told n))
+
+  pub fresh-good : not o ≡ false → v ≡ good → x ≡ blank t m a b → _≡_ {A = Made} (record { verdict = v; state = x }) (made t m a b)
+  fresh-good n e q = (λ i. record { verdict = e i; state = q i }) ∙ sym (made-good t m a b (on told n))
 
 pub ruleset making = (fresh-refused, fresh-good)
 
-module _ (x : Exchanges) (l : Bool) (told : l ≡ legal x) where
-  -- the tick
-  pub tick-state : (v : Verdict) → not l ≡ true → v ≡ refusal STATE 0
-      → _≡_ {A = Ticked} (record { verdict = v; reports = replicate 16 nothing; state = x }) (ticking x)
-  tick-state v n e = ap (λ (u : Verdict). record { verdict = u; reports = replicate 16 nothing; state = x }) e ∙ sym (ticking-state x (off told n))
-
-  pub tick-good : (v : Verdict) (all : Swept) → not l ≡ false → all ≡ swept (x .timeout) (x .resends) (x .places) → v ≡ good
-      → _≡_ {A = Ticked} (record { verdict = v; reports = all .reports; state = placed x (all .places) }) (ticking x)
-  tick-good v all n a e =
-      ap (λ (u : Verdict). record { verdict = u; reports = all .reports; state = placed x (all .places) }) e
-      ∙ ap (after-tick x) a
-      ∙ sym (ticking-good x (on told n))
-
 -- an exchange entered, n being the serial after its own
-pub enter-next : (x : Exchanges) (k s m n : ℕ) → n ≡ upward s 1
-    → _≡_ {A = Exchanges} (record { places = set (x .places) k (opened s m); next = n; timeout = x .timeout; resends = x .resends }) (entered x k s m)
-enter-next x k s m n e =
-    ap (λ (j : ℕ). record { places = set (x .places) k (opened s m); next = j; timeout = x .timeout; resends = x .resends }) e
+pub enter-next : (x : Exchanges) (c k s m n : ℕ) → n ≡ upward s 1
+    → _≡_ {A = Exchanges}
+    (record {
+      places = set (x .places) k (opened s m);
+      centres = set (x .centres) c (record { address = centreAt x c .address; next = n });
+      timeout = x .timeout;
+      resends = x .resends;
+    })
+    (entered x c k s m)
+enter-next x c k s m n e =
+    ap
+    (λ (j : ℕ).
+    record {
+      places = set (x .places) k (opened s m);
+      centres = set (x .centres) c (record { address = centreAt x c .address; next = j });
+      timeout = x .timeout;
+      resends = x .resends;
+    })
+    e
 
 -- the command that the packet writer is handed, m being the mode that the draft's opens
 module _ (c m : ℕ) (o : Bool) (mode : m ≡ modeOf c) (told : o ≡ isOpen m) where
@@ -155,74 +253,77 @@ module _ (c m : ℕ) (o : Bool) (mode : m ≡ modeOf c) (told : o ≡ isOpen m) 
 pub ruleset offering = (its-own, none-of-it)
 
 -- beginning and writing: f is what was found, b what is handed back where it is refused
-module _ (x : Exchanges) (out : List ℕ) (d : Draft) (l : ℕ) (f : Found) (told : f ≡ found x) (g : Bool) (judged : g ≡ isGood (f .verdict)) where
-  is : (b : Bool) → isGood (f .verdict) ≡ b → isGood (found x .verdict) ≡ b
+module _ (x : Exchanges) (n : ℕ) (out : List ℕ) (d : Draft) (l : ℕ) (f : Found) (told : f ≡ found x n) (g : Bool) (judged : g ≡ isGood (f .verdict)) where
+  is : (b : Bool) → isGood (f .verdict) ≡ b → isGood (found x n .verdict) ≡ b
   is b e = ap (λ (y : Found). isGood (y .verdict)) (sym told) ∙ e
 
-  module _ (n : not g ≡ true) where
-    decided : f .verdict ≡ begunVerdict rows x out d l
-    decided = ap (λ (y : Found). y .verdict) told ∙ find-decides rows x out d l (is false (off judged n))
+  module _ (u : not g ≡ true) where
+    decided : f .verdict ≡ begunVerdict rows x n out d l
+    decided = ap (λ (y : Found). y .verdict) told ∙ find-decides rows x n out d l (is false (off judged u))
 
-    none-found : isGood (begunVerdict rows x out d l) ≡ false
-    none-found = ap isGood (sym decided) ∙ off judged n
+    none-found : isGood (begunVerdict rows x n out d l) ≡ false
+    none-found = ap isGood (sym decided) ∙ off judged u
 
-    pub begin-unfound : (b : Begun) → b ≡ unbegun x (f .verdict) → b ≡ begun rows x out d l
-    begin-unfound b e = e ∙ ap (unbegun x) decided ∙ sym (begun-refused rows x out d l none-found)
+    pub begin-unfound : (b : Begun) → b ≡ unbegun x (f .verdict) → b ≡ begun rows x n out d l
+    begin-unfound b e = e ∙ ap (unbegun x) decided ∙ sym (begun-refused rows x n out d l none-found)
 
-    pub begin-unfound-output : out ≡ begunOutput rows x out d l
-    begin-unfound-output = sym (output-kept rows x out d l none-found)
+    pub begin-unfound-output : out ≡ begunOutput rows x n out d l
+    begin-unfound-output = sym (output-kept rows x n out d l none-found)
 
-  module _ (n : not g ≡ false) where
+  module _ (u : not g ≡ false) where
+    inside : Inside x n
+    inside = found-inside x n (is true (on judged u))
+
+    pub begin-named : n < 2
+    begin-named = inside .centre
+
     pub begin-inside : f .place < 16
-    begin-inside = subst⁻¹ (λ (y : Found). y .place < 16) told (found-place x (is true (on judged n)))
+    begin-inside = subst⁻¹ (λ (y : Found). y .place < 16) told (omega (arith, inside .centre, inside .high))
 
-    -- h is the header that the packet writer was handed, w what it said, which is no matter of the serial, k whether that is good, and q what it
+    -- h is the header that the packet writer was handed, w what it said, which is no matter of the serial and the destination, k whether that is good, and q what it
     -- left in the output
-    module _ (c s : ℕ) (h : Header) (w : Verdict) (k : Bool) (opened : c ≡ cond (isOpen (modeOf (d .command))) (d .command) 0)
-        (header : h ≡ headedBy d s c) (says : w ≡ packetVerdict rows out h l) (well : k ≡ isGood w) where
-      written : w ≡ begunVerdict rows x out d l
+    module _ (c s : ℕ) (to : List ℕ) (h : Header) (w : Verdict) (k : Bool) (opened : c ≡ cond (isOpen (modeOf (d .command))) (d .command) 0)
+        (header : h ≡ headedBy d to s c) (says : w ≡ packetVerdict rows out h l) (well : k ≡ isGood w) where
+      written : w ≡ begunVerdict rows x n out d l
       unfolding packetVerdict
       written =
           says
           ∙ ap (λ (y : Header). packetVerdict rows out y l) header
-          ∙ draft-judged rows out d l (found x .serial) c opened
-          ∙ draft-decides rows x out d l (is true (on judged n))
+          ∙ draft-judged rows out d l (addressAt x n) (found x n .serial) c opened
+          ∙ draft-decides rows x n out d l (is true (on judged u))
 
-      unwritten : not k ≡ true → isGood (begunVerdict rows x out d l) ≡ false
+      unwritten : not k ≡ true → isGood (begunVerdict rows x n out d l) ≡ false
       unwritten m = ap isGood (sym written) ∙ off well m
 
-      pub begin-unwritten : (b : Begun) → not k ≡ true → b ≡ unbegun x w → b ≡ begun rows x out d l
-      begin-unwritten b m e = e ∙ ap (unbegun x) written ∙ sym (begun-refused rows x out d l (unwritten m))
+      pub begin-unwritten : (b : Begun) → not k ≡ true → b ≡ unbegun x w → b ≡ begun rows x n out d l
+      begin-unwritten b m e = e ∙ ap (unbegun x) written ∙ sym (begun-refused rows x n out d l (unwritten m))
 
-      pub begin-unwritten-output : (q : List ℕ) → not k ≡ true → q ≡ writtenPacket rows out h l → q ≡ begunOutput rows x out d l
+      pub begin-unwritten-output : (q : List ℕ) → not k ≡ true → q ≡ writtenPacket rows out h l → q ≡ begunOutput rows x n out d l
       begin-unwritten-output q m e =
-          e ∙ sym (kept rows out h l (ap isGood (sym says) ∙ off well m)) ∙ sym (output-kept rows x out d l (unwritten m))
+          e ∙ sym (kept rows out h l (ap isGood (sym says) ∙ off well m)) ∙ sym (output-kept rows x n out d l (unwritten m))
 
       module _ (m : not k ≡ false) where
-        taken : isGood (begunVerdict rows x out d l) ≡ true
+        taken : isGood (begunVerdict rows x n out d l) ≡ true
         taken = ap isGood (sym written) ∙ on well m
 
         pub begin-few : Fits w64 (30 + l)
-        begin-few = omega (arith, begun-few rows x out d l taken)
+        begin-few = omega (arith, begun-few rows x n out d l taken)
 
-        pub begin-written : (mode : ℕ) (y : Exchanges) → mode ≡ modeOf (d .command) → y ≡ entered x (f .place) (f .serial) mode
-            → _≡_ {A = Begun} (record { verdict = w; place = f .place; length = 30 + l; serial = f .serial; state = y }) (begun rows x out d l)
+        pub begin-written : (mode : ℕ) (y : Exchanges) → mode ≡ modeOf (d .command) → y ≡ entered x n (f .place) (f .serial) mode
+            → _≡_ {A = Begun} (record { verdict = w; place = f .place; length = 30 + l; serial = f .serial; state = y }) (begun rows x n out d l)
         begin-written mode y q e =
             ap (λ (z : Exchanges). record { verdict = w; place = f .place; length = 30 + l; serial = f .serial; state = z })
-            (e ∙ ap (entered x (f .place) (f .serial)) q)
-            ∙ (λ i. opening-at rows x out d l (written i) (told i))
-            ∙ sym (begun-good rows x out d l taken)
+            (e ∙ ap (entered x n (f .place) (f .serial)) q)
+            ∙ (λ i. opening-at rows x n out d l (written i) (told i))
+            ∙ sym (begun-good rows x n out d l taken)
 
-        pub begin-written-output : (q : List ℕ) → s ≡ f .serial → q ≡ writtenPacket rows out h l → q ≡ begunOutput rows x out d l
-        begin-written-output q same e =
-            let own : c ≡ d .command = opened ∙ ap (λ (b : Bool). cond b (d .command) 0) (taken-by rows x out d l taken .opens) in
+        pub begin-written-output : (q : List ℕ) → s ≡ f .serial → to ≡ addressAt x n → q ≡ writtenPacket rows out h l → q ≡ begunOutput rows x n out d l
+        begin-written-output q same its-own e =
+            let own : c ≡ d .command = opened ∙ ap (λ (b : Bool). cond b (d .command) 0) (taken-by rows x n out d l taken .opens) in
             let its = same ∙ ap (λ (y : Found). y .serial) told in
             e
-            ∙ ap (λ (y : Header). writtenPacket rows out y l) (header ∙ λ i. headedBy d (its i) (own i))
-            ∙ sym (output-written rows x out d l taken)
+            ∙ ap (λ (y : Header). writtenPacket rows out y l) (header ∙ λ i. headedBy d (its-own i) (its i) (own i))
+            ∙ sym (output-written rows x n out d l taken)
 
-pub ruleset replying = (reply-unset, reply-broken, reply-stray, reply-inside, reply-good)
-
-pub ruleset ticked = (tick-state, tick-good)
-
-pub ruleset beginning = (begin-unfound, begin-unfound-output, begin-inside, begin-unwritten, begin-unwritten-output, begin-few, begin-written, begin-written-output)
+pub ruleset beginning =
+    (begin-unfound, begin-unfound-output, begin-named, begin-inside, begin-unwritten, begin-unwritten-output, begin-few, begin-written, begin-written-output)

@@ -81,7 +81,7 @@ pub course : (k : ℕ) → k < 16 → {x : Exchanges} {ls : List Line} → Log x
     → Course (x .timeout) (x .resends) k (placeAt (x .places) k .serial) (placeAt (x .places) k) ls
 unfolding ends isOpen
 course k here (none {x}) sound o =
-    lasts (alive (x .timeout) (x .resends) (placeAt (x .places) k) o (rules-of x (sound .kept) .keeping k (omega arith) here))
+    lasts (alive (x .timeout) (x .resends) (placeAt (x .places) k) o (rules-of x (sound .kept) .keeping k here))
 course k here (next {x} {y} {l} {ls} a rest) sound o = by-turn (turned .turn) (course k here rest (a .sound)) (quiet k here rest)
   where
     t : ℕ

@@ -7,7 +7,7 @@ use mathlib.Core.List.{List, [], _∷_, reverseAux, reverse}
 use mathlib.Core.Path.{_≡_, sym, ap, subst, subst⁻¹, _∙_}
 use borrow.Author.Tests.{eqb-true}
 use lib.Dec.{eqb}
-use lib.ListN.{getD-replicate}
+use lib.ListN.{replicate, getD-replicate}
 use Rattle.octets.proofs.Flags.{by-test}
 use Rattle.verdict.specs.declared.Verdict.{Verdict}
 use Rattle.verdict.specs.Orders.{isGood}
@@ -102,17 +102,17 @@ module _ (k : ℕ) (here : k < 16) where
       accounts-run (after x c) (acts .sound) (lineOf x c ∷ h) (one-line x (after x c) (lineOf x c) acts h a) cs
 
   -- in a fresh table no place is open
-  pub none-open : (t r : ℕ) → placeAt (made t r .state .places) k ≡ free
+  pub none-open : (t r : ℕ) (a b : List ℕ) → placeAt (made t r a b .state .places) k ≡ free
   unfolding made
-  none-open t r = by-verdict (isGood (made t r .verdict))
+  none-open t r a b = by-verdict (isGood (made t r a b .verdict))
     where
-      by-verdict : (b : Bool) → placeAt (cond b (blank t r) (blank 0 0) .places) k ≡ free
+      by-verdict : (g : Bool) → placeAt (cond g (blank t r a b) (blank 0 0 (replicate 6 0) (replicate 6 0)) .places) k ≡ free
       by-verdict true = getD-replicate 16 k free free here
       by-verdict false = getD-replicate 16 k free free here
 
-  pub accounted : (t r : ℕ) → isGood (made t r .verdict) ≡ true → (cs : List Call)
-      → Accounts k (placeAt (run (made t r .state) cs .places) k) (reverse (logged (made t r .state) cs))
+  pub accounted : (t r : ℕ) (a b : List ℕ) → isGood (made t r a b .verdict) ≡ true → (cs : List Call)
+      → Accounts k (placeAt (run (made t r a b .state) cs .places) k) (reverse (logged (made t r a b .state) cs))
   unfolding isOpen
-  accounted t r g =
-      accounts-run (made t r .state) (made-sound t r g) []
-      (subst⁻¹ (λ (p : Place). Accounts k p []) (none-open t r) (λ e. absurd (false≢true e)))
+  accounted t r a b g =
+      accounts-run (made t r a b .state) (made-sound t r a b g) []
+      (subst⁻¹ (λ (p : Place). Accounts k p []) (none-open t r a b) (λ e. absurd (false≢true e)))

@@ -1,15 +1,18 @@
 -- Every call keeps the state's rules, so from a fresh table that was not refused STATE never comes.
 -- By what each call changes: one place opened under a serial that was not open, one place after its step, or all after theirs.
 -- Assumes nothing.
-use Prim.Native.Nat.{ℕ, _+_, _≤_, _<_}
+use Prim.Native.Nat.{ℕ, _+_, _-_, _≤_, _<_}
 use native.Mathlib.Omega.{arith}
 use mathlib.Core.Bool.{Bool, true, false, not, _&&_, cond, and-eq-true-iff, false≢true}
 use mathlib.Core.List.{List, [], _∷_, map}
 use mathlib.Core.Path.{_≡_, refl, sym, ap, subst, subst⁻¹, _∙_}
-use borrow.Author.Tests.{not-true, ltb-true, ltb-false, leb-true}
-use lib.Dec.{ltb, leb}
-use lib.ListN.{length, getD, set, length-set, length-map, length-replicate, getD-replicate, List·getD-map}
-use Rattle.octets.proofs.Searches.{first-fits}
+use borrow.Author.Tests.{not-true, ltb-true, ltb-false, leb-true, eqb-true, eqb-false}
+use lib.Dec.{ltb, leb, eqb}
+use lib.ListN.{length, getD, set, length-set, length-map, length-replicate, getD-replicate, List·getD-map, List·getD-eq-default}
+use lib.Seq.{getD-set-same, getD-set-other}
+use Rattle.octets.specs.Searches.{same}
+use Rattle.octets.proofs.Flags.{by-test}
+use Rattle.octets.proofs.Searches.{first-fits, first-from}
 use Rattle.octets.specs.Parts.{part}
 use Rattle.kinds.specs.declared.Row.{Row}
 use Rattle.kinds.specs.Table.{rows}
@@ -18,7 +21,7 @@ use Rattle.packet.specs.declared.Header.{Header}
 use Rattle.unit.specs.declared.Carrier.the-variants.{By}
 use Rattle.unit.specs.Units.{unitTests, judgedUnit, isBare, bareTests, isCommand, judgedUnder}
 use Rattle.verdict.specs.declared.Verdict.{Verdict}
-use Rattle.verdict.specs.Refusals.{STATE, FULL, COMMAND}
+use Rattle.verdict.specs.Refusals.{STATE, FULL, CENTRE, COMMAND}
 use Rattle.verdict.specs.Orders.{_or-else_, good, isGood, inOrder}
 use Rattle.verdict.proofs.Order.{passed, other-number}
 use Rattle.place.specs.declared.Place.{Place}
@@ -26,42 +29,46 @@ use Rattle.place.specs.declared.Reply.{Reply}
 use Rattle.place.specs.Rules.{opened, free, isOpen, holds, keeps}
 use Rattle.place.specs.Steps.{ticked, replied}
 use Rattle.place.proofs.Kept.{holds-is, fits-holds, replied-holds, ticked-holds, open-keeps, free-keeps, free-holds, replied-keeps, ticked-keeps}
+use Rattle.exchange.specs.declared.Centre.{Centre}
 use Rattle.exchange.specs.declared.Exchanges.{Exchanges}
 use Rattle.exchange.specs.declared.Made.{Made}
 use Rattle.exchange.specs.declared.Begun.{Begun}
 use Rattle.exchange.specs.declared.Replied.{Replied}
 use Rattle.exchange.specs.declared.Ticked.{Ticked}
-use Rattle.places.specs.Rows.{placeAt, holdsAt, fitsAt, lowestFree, isOpenAs, twice, allKeep, areSound, fitting, aged, report, nothing, swept}
+use Rattle.places.specs.Rows.{placeAt, holdsAt, keepsAt, fitsAt, isOpenAs, upward, fitting, lowOf, endOf, aged, report, nothing}
 use Rattle.exchange.specs.Begins.{modeOf, openingTests, begunVerdict}
-use Rattle.exchange.specs.Table.{inRange, legal, blank, made, found, placed, entered, answered, ticking}
+use Rattle.exchange.specs.Table.{inRange, centre, addressAt, nextAt, centreOf, settled, legal, blank, made, lowestOf, found, placed, entered, fittingOf, answered, ticking}
 use Rattle.exchange.specs.Calls.{Asked, begunBy, Call, begin, reply, tick, verdictOf, after, run, Sound}
 use Rattle.places.proofs.Serials.{serial-unopened}
-use Rattle.places.proofs.Rules.{Keeping, keep-each, each-keep, Apart, once-apart, apart-once, apart-fewer, each-place, apart-opened}
-use Rattle.exchange.proofs.Answers.{made-refused, made-good, found-place, found-serial, answered-stray, answered-good, ticking-good}
+use Rattle.places.proofs.Rules.{Apart, once-apart, apart-once, apart-fewer, unchanged, each-place, apart-opened, sound-keeps, sound-once, both-sound}
+use Rattle.exchange.proofs.Answers.{made-refused, made-good, legal-parts, found-inside, found-serial, answered-outside, answered-stray, answered-good, ticking-good}
 use Rattle.exchange.proofs.Begins.{taken-by, begun-refused, begun-good, begun-verdict}
 
 -- the rules one by one
 pub record Rules (x : Exchanges) : Type 0 where
   pub range : inRange (x .timeout) (x .resends) ≡ true
-  pub keeping : Keeping (x .timeout) (x .resends) (x .places) 0 16
-  pub apart : Apart (x .places) 0 16
+  pub differ : same (addressAt x 0) (addressAt x 1) ≡ false
+  pub keeping : (k : ℕ) → k < 16 → keepsAt (x .timeout) (x .resends) (x .places) k ≡ true
+  pub apart : (c : ℕ) → c < 2 → Apart (x .places) (lowOf c) (endOf c)
 
 pub rules-of : (x : Exchanges) → legal x ≡ true → Rules x
-unfolding legal areSound
 rules-of x e =
-    let a = allKeep (x .timeout) (x .resends) (x .places) 0 16 in
-    let h = and-eq-true-iff (inRange (x .timeout) (x .resends)) (areSound (x .timeout) (x .resends) (x .places) 0 16) .0 e in
-    let g = and-eq-true-iff a (not (twice (x .places) 0 16)) .0 (h .1) in
+    let l = legal-parts x e in
+    let h = and-eq-true-iff (inRange (x .timeout) (x .resends)) (not (same (addressAt x 0) (addressAt x 1))) .0 (l .0) in
     record {
       range = h .0;
-      keeping = keep-each (x .timeout) (x .resends) (x .places) 0 16 (g .0);
-      apart = once-apart (x .places) 0 16 (not-true (twice (x .places) 0 16) (g .1));
+      differ = not-true (same (addressAt x 0) (addressAt x 1)) (h .1);
+      keeping = sound-keeps (x .timeout) (x .resends) (x .places) (l .1);
+      apart = λ c o. once-apart (x .places) (lowOf c) (endOf c) (sound-once (x .timeout) (x .resends) (x .places) (l .1) c o);
     }
 
 pub legal-by : (x : Exchanges) → Rules x → legal x ≡ true
-unfolding legal areSound
+unfolding legal
 legal-by x h =
-    simp (h .range, each-keep (x .timeout) (x .resends) (x .places) 0 16 (h .keeping), apart-once (x .places) 0 16 (h .apart))
+    let all =
+    both-sound (x .timeout) (x .resends) (x .places)
+    (λ c o. (λ k l u. h .keeping k (omega arith), apart-once (x .places) (lowOf c) (endOf c) (h .apart c o))) in
+    simp (h .range, h .differ, all)
 
 some : (t r : ℕ) → inRange t r ≡ true → 1 ≤ t
 some t r e =
@@ -79,14 +86,17 @@ module _ (t r : ℕ) (ps : List Place) (k : ℕ) where
   told-at = List·getD-map (report t r) ps k free
 
 -- a fresh table keeps them
-pub fresh-sound : (t r : ℕ) → inRange t r ≡ true → Sound (blank t r)
-fresh-sound t r e =
+pub fresh-sound : (t r : ℕ) (a b : List ℕ) → settled t r a b ≡ true → Sound (blank t r a b)
+fresh-sound t r a b e =
+    let h = and-eq-true-iff (inRange t r) (not (same a b)) .0 e in
     record {
       long = length-replicate 16 free;
-      kept = legal-by (blank t r) (record {
-        range = e;
-        keeping = λ k l h. subst⁻¹ (λ (p : Place). keeps t r p ≡ true) (getD-replicate 16 k free free h) (free-keeps t r);
-        apart = λ s j k l u v h. subst⁻¹ (λ (p : Place). holds s p ≡ false) (getD-replicate 16 k free free v) (free-holds s);
+      two = refl;
+      kept = legal-by (blank t r a b) (record {
+        range = h .0;
+        differ = not-true (same a b) (h .1);
+        keeping = λ k u. subst⁻¹ (λ (p : Place). keeps t r p ≡ true) (getD-replicate 16 k free free u) (free-keeps t r);
+        apart = λ c o s j k l u v q. subst⁻¹ (λ (p : Place). holds s p ≡ false) (getD-replicate 16 k free free (omega arith)) (free-holds s);
       });
     }
 
@@ -97,38 +107,79 @@ module _ (x : Exchanges) (sound : Sound x) where
   inside : (k : ℕ) → k < 16 → k < length (x .places)
   inside k h = omega (arith, sound .long)
 
-  -- an exchange entered under a serial that is not open
-  pub entered-sound : (k s : ℕ) (m : ℕ) → k < 16 → isOpenAs (x .places) 0 16 s ≡ false → isOpen m ≡ true → Sound (entered x k s m)
-  entered-sound k s m h none o =
+  -- a centre with another serial to try next has the address that it had
+  pub renamed : (c n d : ℕ) → addressAt (record { places = x .places; centres = set (x .centres) c (centre (addressAt x c) n); timeout = x .timeout; resends = x .resends }) d
+      ≡ addressAt x d
+  renamed c n d = by-test (eqb d c)
+      (λ e.
+      let same = eqb-true d c e in
+      by-test (ltb c 2)
+      (λ o.
+      ap (λ (j : ℕ). getD (set (x .centres) c (centre (addressAt x c) n)) j (centre [] 0) .address .bytes) same
+      ∙ ap (λ (y : Centre). y .address .bytes) (getD-set-same (x .centres) c (centre (addressAt x c) n) (centre [] 0) (let l = ltb-true c 2 o in omega (arith, sound .two, l)))
+      ∙ ap (addressAt x) (sym same))
+      (λ o.
+      let past : length (x .centres) ≤ d = omega (arith, sound .two, ltb-false c 2 o, same) in
+      let over : length (set (x .centres) c (centre (addressAt x c) n)) ≤ d = omega (arith, length-set (x .centres) c (centre (addressAt x c) n), past) in
+      ap (λ (y : Centre). y .address .bytes)
+      (List·getD-eq-default (set (x .centres) c (centre (addressAt x c) n)) (centre [] 0) {n = d} over
+      ∙ sym (List·getD-eq-default (x .centres) (centre [] 0) {n = d} past))))
+      (λ e. ap (λ (y : Centre). y .address .bytes) (getD-set-other (x .centres) c d (centre (addressAt x c) n) (centre [] 0) (eqb-false d c e)))
+
+  -- an exchange of a centre entered at one of its places, under a serial that is not open within it
+  pub entered-sound : (c k s : ℕ) (m : ℕ) → c < 2 → lowOf c ≤ k → k < endOf c → isOpenAs (x .places) (lowOf c) (endOf c) s ≡ false → isOpen m ≡ true
+      → Sound (entered x c k s m)
+  entered-sound c k s m o l u none open-so =
+      let here : k < length (x .places) = inside k (omega arith) in
       record {
         long = length-set (x .places) k (opened s m) ∙ sound .long;
-        kept = legal-by (entered x k s m) (record {
+        two = length-set (x .centres) c (centre (addressAt x c) (upward s 1)) ∙ sound .two;
+        kept = legal-by (entered x c k s m) (record {
           range = rules .range;
+          differ = (λ i. same (renamed c (upward s 1) 0 i) (renamed c (upward s 1) 1 i)) ∙ rules .differ;
           keeping =
-              each-place (x .places) k (opened s m) (λ (i : ℕ) (p : Place). 0 ≤ i → i < 16 → keeps (x .timeout) (x .resends) p ≡ true) (inside k h)
-              (λ l u. open-keeps (x .timeout) (x .resends) (opened s m) o (some (x .timeout) (x .resends) (rules .range)) (omega arith))
+              each-place (x .places) k (opened s m) (λ (i : ℕ) (p : Place). i < 16 → keeps (x .timeout) (x .resends) p ≡ true) here
+              (λ h. open-keeps (x .timeout) (x .resends) (opened s m) open-so (some (x .timeout) (x .resends) (rules .range)) (omega arith))
               (rules .keeping);
-          apart = apart-opened (x .places) 0 16 k s m (inside k h) none (rules .apart);
+          apart = λ d h.
+              by-test (eqb d c)
+              (λ e.
+              subst⁻¹ (λ (j : ℕ). Apart (set (x .places) k (opened s m)) (lowOf j) (endOf j)) (eqb-true d c e)
+              (apart-opened (x .places) (lowOf c) (endOf c) k s m here none (rules .apart c o)))
+              (λ e.
+              let other = eqb-false d c e in
+              apart-fewer (x .places) (set (x .places) k (opened s m)) (lowOf d) (endOf d)
+              (λ a i v w q.
+              let apart-from : i ≡ k → ⊥ = λ eq. other (omega (arith, v, w, l, u, eq)) in
+              subst (λ (p : Place). holds a p ≡ true) (unchanged (x .places) k (opened s m) i apart-from) q)
+              (rules .apart d h));
         });
       }
 
   -- other places, of which each keeps the rules and holds no serial that it did not hold
-  pub placed-sound : (ps : List Place) → length ps ≡ 16 → Keeping (x .timeout) (x .resends) ps 0 16
+  pub placed-sound : (ps : List Place) → length ps ≡ 16 → ((k : ℕ) → k < 16 → keepsAt (x .timeout) (x .resends) ps k ≡ true)
       → ((s k : ℕ) → holdsAt ps s k ≡ true → holdsAt (x .places) s k ≡ true) → Sound (placed x ps)
   placed-sound ps n h fewer =
       record {
         long = n;
+        two = sound .two;
         kept = legal-by (placed x ps) (record {
           range = rules .range;
+          differ = rules .differ;
           keeping = h;
-          apart = apart-fewer (x .places) ps 0 16 (λ s k l u. fewer s k) (rules .apart);
+          apart = λ c o. apart-fewer (x .places) ps (lowOf c) (endOf c) (λ s k l u. fewer s k) (rules .apart c o);
         });
       }
 
--- the place that a reply fits is open under its serial
-pub fitting-fits : (ps : List Place) (s : ℕ) (w : Reply) → fitting ps 0 16 s w < 16 → fitsAt ps s w (fitting ps 0 16 s w) ≡ true
-unfolding fitting
-fitting-fits ps s w h = first-fits (fitsAt ps s w) 0 16 h
+-- the place that a reply fits is the centre's, and open under its serial
+module _ (x : Exchanges) (c s : ℕ) (w : Reply) where
+  pub fitting-low : lowOf c ≤ fittingOf x c s w
+  unfolding fitting
+  fitting-low = first-from (fitsAt (x .places) s w) (lowOf c) (endOf c - lowOf c)
+
+  pub fitting-fits : fittingOf x c s w < endOf c → fitsAt (x .places) s w (fittingOf x c s w) ≡ true
+  unfolding fitting
+  fitting-fits h = first-fits (fitsAt (x .places) s w) (lowOf c) (endOf c - lowOf c) (omega (arith, h))
 
 -- the packet writer never says STATE
 writer-other : (rs : List Row) (out : List ℕ) (h : Header) (l : ℕ) → packetVerdict rs out h l .number ≡ STATE → ⊥
@@ -153,74 +204,85 @@ record Well (v : Verdict) (y : Exchanges) : Type 0 where
 module _ (x : Exchanges) (sound : Sound x) where
   module _ (a : Asked) where
     v : Verdict
-    v = begunVerdict rows x (a .out) (a .draft) (a .size)
+    v = begunVerdict rows x (a .centre) (a .out) (a .draft) (a .size)
 
     begin-other : v .number ≡ STATE → ⊥
     unfolding v begunVerdict
     begin-other e =
-        let free = ltb (lowestFree (x .places) 0 16) 16 or-else FULL in
-        other-number STATE (free ∷ []) _ refl (other-number STATE (openingTests (a .out) (a .draft) (a .size)) _ refl (writer-other rows _ _ _))
-        (ap (λ (w : Verdict). w .number) (sym (passed (legal x or-else STATE) (free ∷ []) _ (sound .kept))) ∙ e)
+        let rest = (ltb (a .centre) 2 or-else CENTRE) ∷ (ltb (lowestOf x (a .centre)) (endOf (a .centre)) or-else FULL) ∷ [] in
+        other-number STATE rest _ refl (other-number STATE (openingTests (a .out) (a .draft) (a .size)) _ refl (writer-other rows _ _ _))
+        (ap (λ (w : Verdict). w .number) (sym (passed (legal x or-else STATE) rest _ (sound .kept))) ∙ e)
 
     begin-sound : Sound (begunBy x a .state)
     unfolding v
     begin-sound = by-test (isGood v) refl
       where
         by-test : (b : Bool) → isGood v ≡ b → Sound (begunBy x a .state)
-        by-test false q = subst⁻¹ (λ (y : Begun). Sound (y .state)) (begun-refused rows x (a .out) (a .draft) (a .size) q) sound
+        by-test false q = subst⁻¹ (λ (y : Begun). Sound (y .state)) (begun-refused rows x (a .centre) (a .out) (a .draft) (a .size) q) sound
         by-test true q =
-            let t = taken-by rows x (a .out) (a .draft) (a .size) q in
-            let unopened = subst⁻¹ (λ (s : ℕ). isOpenAs (x .places) 0 16 s ≡ false) (found-serial x (t .find)) (serial-unopened (x .places) 0 16 (x .next) (omega arith)) in
-            subst⁻¹ (λ (y : Begun). Sound (y .state)) (begun-good rows x (a .out) (a .draft) (a .size) q)
-            (entered-sound x sound (found x .place) (found x .serial) (modeOf (a .draft .command)) (found-place x (t .find)) unopened (t .opens))
+            let t = taken-by rows x (a .centre) (a .out) (a .draft) (a .size) q in
+            let c = a .centre in
+            let in-it = found-inside x c (t .find) in
+            let unopened =
+            subst⁻¹ (λ (s : ℕ). isOpenAs (x .places) (lowOf c) (endOf c) s ≡ false) (found-serial x c (t .find))
+            (serial-unopened (x .places) (lowOf c) (endOf c) (nextAt x c) (omega arith)) in
+            subst⁻¹ (λ (y : Begun). Sound (y .state)) (begun-good rows x (a .centre) (a .out) (a .draft) (a .size) q)
+            (entered-sound x sound c (found x c .place) (found x c .serial) (modeOf (a .draft .command)) (in-it .centre) (in-it .low) (in-it .high) unopened (t .opens))
 
     begin-well : Well (begunBy x a .verdict) (begunBy x a .state)
     unfolding v
     begin-well =
         record {
           sound = begin-sound;
-          other = λ e. begin-other (ap (λ (w : Verdict). w .number) (sym (begun-verdict rows x (a .out) (a .draft) (a .size))) ∙ e);
+          other = λ e. begin-other (ap (λ (w : Verdict). w .number) (sym (begun-verdict rows x (a .centre) (a .out) (a .draft) (a .size))) ∙ e);
         }
 
-  reply-well : (s : ℕ) (w : Reply) → Well (answered x s w .verdict) (answered x s w .state)
-  reply-well s w = by-test (ltb (fitting (x .places) 0 16 s w) 16) refl
+  reply-well : (a : List ℕ) (s : ℕ) (w : Reply) → Well (answered x a s w .verdict) (answered x a s w .state)
+  reply-well a s w = by-tests (ltb c 2) refl (ltb k (endOf c)) refl
     where
+      c : ℕ
+      c = centreOf x a
+
       k : ℕ
-      k = fitting (x .places) 0 16 s w
+      k = fittingOf x c s w
 
       p : Place
       p = placeAt (x .places) k
 
-      by-test : (b : Bool) → ltb (fitting (x .places) 0 16 s w) 16 ≡ b → Well (answered x s w .verdict) (answered x s w .state)
-      by-test false q =
-          subst⁻¹ (λ (y : Replied). Well (y .verdict) (y .state)) (answered-stray x s w (sound .kept) (ltb-false k 16 q))
-          (record { sound = sound; other = λ h. omega (arith, h) })
-      by-test true q =
-          let h = ltb-true k 16 q in
-          let o = holds-is s p (fits-holds s w p (fitting-fits (x .places) s w h)) .0 in
+      says : Replied → Type 0
+      says y = Well (y .verdict) (y .state)
+
+      by-tests : (o : Bool) → ltb c 2 ≡ o → (b : Bool) → ltb k (endOf c) ≡ b → says (answered x a s w)
+      by-tests false e b q =
+          subst⁻¹ says (answered-outside x a s w (sound .kept) (ltb-false c 2 e)) (record { sound = sound; other = λ h. omega (arith, h) })
+      by-tests true e false q =
+          subst⁻¹ says (answered-stray x a s w (sound .kept) (ltb-true c 2 e) (ltb-false k (endOf c) q)) (record { sound = sound; other = λ h. omega (arith, h) })
+      by-tests true e true q =
+          let h = ltb-true k (endOf c) q in
+          let o = holds-is s p (fits-holds s w p (fitting-fits x c s w h)) .0 in
           let step = replied (x .resends) w p .place in
-          subst⁻¹ (λ (y : Replied). Well (y .verdict) (y .state)) (answered-good x s w (sound .kept) h)
+          let here = inside x sound k (omega (arith, ltb-true c 2 e, h)) in
+          subst⁻¹ says (answered-good x a s w (sound .kept) (ltb-true c 2 e) h)
           (record {
             sound =
                 placed-sound x sound (set (x .places) k step) (length-set (x .places) k step ∙ sound .long)
-                (each-place (x .places) k step (λ (i : ℕ) (y : Place). 0 ≤ i → i < 16 → keeps (x .timeout) (x .resends) y ≡ true) (inside x sound k h)
-                (λ l u. replied-keeps (x .timeout) (x .resends) p (some (x .timeout) (x .resends) (rules x sound .range)) w o)
+                (each-place (x .places) k step (λ (i : ℕ) (y : Place). i < 16 → keeps (x .timeout) (x .resends) y ≡ true) here
+                (λ u. replied-keeps (x .timeout) (x .resends) p (some (x .timeout) (x .resends) (rules x sound .range)) w o)
                 (rules x sound .keeping))
-                (λ a. each-place (x .places) k step (λ (i : ℕ) (y : Place). holds a y ≡ true → holdsAt (x .places) a i ≡ true) (inside x sound k h)
-                (replied-holds a (x .resends) p w)
+                (λ n. each-place (x .places) k step (λ (i : ℕ) (y : Place). holds n y ≡ true → holdsAt (x .places) n i ≡ true) here
+                (replied-holds n (x .resends) p w)
                 (λ i e. e));
             other = λ h. omega (arith, h);
           })
 
   tick-well : Well (ticking x .verdict) (ticking x .state)
-  unfolding swept
   tick-well =
       subst⁻¹ (λ (y : Ticked). Well (y .verdict) (y .state)) (ticking-good x (sound .kept))
       (record {
         sound =
             placed-sound x sound (map (aged (x .timeout) (x .resends)) (x .places)) (length-map (x .places) (aged (x .timeout) (x .resends)) ∙ sound .long)
-            (λ k l u. subst⁻¹ (λ (p : Place). keeps (x .timeout) (x .resends) p ≡ true) (aged-at (x .timeout) (x .resends) (x .places) k)
-            (ticked-keeps (x .timeout) (x .resends) (placeAt (x .places) k) (some (x .timeout) (x .resends) (rules x sound .range)) (rules x sound .keeping k l u)))
+            (λ k u. subst⁻¹ (λ (p : Place). keeps (x .timeout) (x .resends) p ≡ true) (aged-at (x .timeout) (x .resends) (x .places) k)
+            (ticked-keeps (x .timeout) (x .resends) (placeAt (x .places) k) (some (x .timeout) (x .resends) (rules x sound .range)) (rules x sound .keeping k u)))
             (λ a k e. ticked-holds a (x .resends) (placeAt (x .places) k) (x .timeout) (subst (λ (p : Place). holds a p ≡ true) (aged-at (x .timeout) (x .resends) (x .places) k) e));
         other = λ h. omega (arith, h);
       })
@@ -228,7 +290,7 @@ module _ (x : Exchanges) (sound : Sound x) where
   well : (c : Call) → Well (verdictOf x c) (after x c)
   unfolding verdictOf after
   well (begin a) = begin-well a
-  well (reply s w) = reply-well s w
+  well (reply a s w) = reply-well a s w
   well tick = tick-well
 
 -- over any sequence of calls
@@ -238,16 +300,16 @@ run-sound x sound [] = sound
 run-sound x sound (c ∷ cs) = run-sound (after x c) (well x sound c .sound) cs
 
 -- a fresh table that was not refused keeps the rules, and so does every table after it
-pub made-sound : (t r : ℕ) → isGood (made t r .verdict) ≡ true → Sound (made t r .state)
-made-sound t r g = by-test (inRange t r) refl
-  where
-    by-test : (b : Bool) → inRange t r ≡ b → Sound (made t r .state)
-    by-test true e = subst⁻¹ (λ (y : Made). Sound (y .state)) (made-good t r e) (fresh-sound t r e)
-    by-test false e = absurd (false≢true (sym (ap (λ (y : Made). isGood (y .verdict)) (made-refused t r e)) ∙ g))
+pub made-sound : (t r : ℕ) (a b : List ℕ) → isGood (made t r a b .verdict) ≡ true → Sound (made t r a b .state)
+made-sound t r a b g =
+    by-test (settled t r a b)
+    (λ e. subst⁻¹ (λ (y : Made). Sound (y .state)) (made-good t r a b e) (fresh-sound t r a b e))
+    (λ e. absurd (false≢true (sym (ap (λ (y : Made). isGood (y .verdict)) (made-refused t r a b e)) ∙ g)))
 
-pub never-broken : (t r : ℕ) → isGood (made t r .verdict) ≡ true → (cs : List Call) → Sound (run (made t r .state) cs)
-never-broken t r g = run-sound (made t r .state) (made-sound t r g)
+pub never-broken : (t r : ℕ) (a b : List ℕ) → isGood (made t r a b .verdict) ≡ true → (cs : List Call) → Sound (run (made t r a b .state) cs)
+never-broken t r a b g = run-sound (made t r a b .state) (made-sound t r a b g)
 
 -- so STATE never comes
-pub never-STATE : (t r : ℕ) → isGood (made t r .verdict) ≡ true → (cs : List Call) (c : Call) → verdictOf (run (made t r .state) cs) c .number ≡ STATE → ⊥
-never-STATE t r g cs c = well (run (made t r .state) cs) (never-broken t r g cs) c .other
+pub never-STATE : (t r : ℕ) (a b : List ℕ) → isGood (made t r a b .verdict) ≡ true → (cs : List Call) (c : Call)
+    → verdictOf (run (made t r a b .state) cs) c .number ≡ STATE → ⊥
+never-STATE t r a b g cs c = well (run (made t r a b .state) cs) (never-broken t r a b g cs) c .other

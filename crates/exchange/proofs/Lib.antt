@@ -13,3 +13,6 @@ pub mod Lives
 pub mod Before
 pub mod Written
 pub mod Examples
+pub mod Centres
+pub mod Independent
+pub mod OneCentre

@@ -130,18 +130,18 @@ lived t r k s ls b =
       ends-once = λ h. subst₂ (λ (n m : ℕ). Ended n m k ls) first all (ended t r k s c (omega (arith, first, h)));
       open-in-time = omega (arith, first, in-time t r k s c);
       sent-at-most = omega (arith, sent-few t r k s c);
-      serial-its-own = never t r k s (gives s) (λ l o. o .serial) c;
+      serial-its-own = never t r k s (gives k s) (λ l o. o .serial) c;
       place-its-own = never t r k s (begins k) (λ l o. o .place) c;
       told-by-serial = never t r k s (misnames k s) (λ l o. o .name) c;
       fails-at-last = λ h n. subst₂ (λ (m d : ℕ). Failed m d k ls) first all (fails t r k s c (omega (arith, first, h)) n);
     }
 
 -- of each exchange in a log of a fresh table that was not refused
-pub each-lives : (t r : ℕ) → isGood (made t r .verdict) ≡ true → {log : List Line} → Log (made t r .state) log → (e : Exchange log)
+pub each-lives : (t r : ℕ) (a b : List ℕ) → isGood (made t r a b .verdict) ≡ true → {log : List Line} → Log (made t r a b .state) log → (e : Exchange log)
     → Lived t r (e .place) (e .serial) (e .after)
 unfolding run
-each-lives t r g l e =
-    let set = settings-made t r g [] in
+each-lives t r a b g l e =
+    let set = settings-made t r a b g [] in
     lived t r (e .place) (e .serial) (e .after)
     (subst₂ (λ (u n : ℕ). Started u n (e .place) (e .serial) (e .after)) (set .0) (set .1)
-    (started (e .before) l (made-sound t r g) (e .verdict) (e .place) (e .serial) (e .after) (e .written) (e .taken)))
+    (started (e .before) l (made-sound t r a b g) (e .verdict) (e .place) (e .serial) (e .after) (e .written) (e .taken)))

@@ -19,13 +19,13 @@ pub record Left : Type 0 where
   pub state : Exchanges
   pub out : List ℕ
 
-unfoldable pub inTwo : List Row → Exchanges → ℕ → List ℕ → Draft → ℕ → Left
-inTwo rs x m out d l =
-    let f = found x in
+unfoldable pub inTwo : List Row → Exchanges → ℕ → ℕ → List ℕ → Draft → ℕ → Left
+inTwo rs x c m out d l =
+    let f = found x c in
     cond (isGood (f .verdict))
     (record {
-      verdict = packetVerdict rs out (headed d (f .serial)) l;
-      state = entered x (f .place) (f .serial) m;
-      out = writtenPacket rs out (headed d (f .serial)) l;
+      verdict = packetVerdict rs out (headed x c d (f .serial)) l;
+      state = entered x c (f .place) (f .serial) m;
+      out = writtenPacket rs out (headed x c d (f .serial)) l;
     })
     (record { verdict = f .verdict; state = x; out = out })

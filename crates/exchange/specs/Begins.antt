@@ -1,5 +1,5 @@
--- "Begin and write as one" (document 02, Q-8), over any table of types rs. It is made of what stands: what a beginning finds and the table
--- with an exchange entered (Table), the packet writer's verdict and bytes (output).
+-- "Begin and write as one" (document 02, Q-8) for a centre (Q-11), over any table of types rs. It is made of what stands: what a beginning finds and
+-- the table with an exchange entered (Table), the packet writer's verdict and bytes (output).
 -- Assumes nothing.
 use Prim.Native.Nat.{ℕ, _+_}
 use mathlib.Core.Bool.{_||_, cond}
@@ -15,15 +15,15 @@ use Rattle.verdict.specs.Refusals.{COMMAND}
 use Rattle.exchange.specs.declared.Begun.{Begun}
 use Rattle.exchange.specs.declared.Draft.{Draft}
 use Rattle.exchange.specs.declared.Exchanges.{Exchanges}
-use Rattle.exchange.specs.Table.{beginTests, found, entered}
+use Rattle.exchange.specs.Table.{addressAt, beginTests, found, entered}
 
--- the header of a draft under a serial and a command, and under its own
-abbrev pub headedBy : Draft → ℕ → ℕ → Header
-headedBy d s c =
-    record { serial = s; version = d .version; label = d .label; source = d .source; destination = d .destination; command = c }
+-- the header of a draft under a destination, a serial and a command
+abbrev pub headedBy : Draft → List ℕ → ℕ → ℕ → Header
+headedBy d to s m = record { serial = s; version = d .version; label = d .label; source = d .source; destination = to; command = m }
 
-abbrev pub headed : Draft → ℕ → Header
-headed d s = headedBy d s (d .command)
+-- "writes its address as destination", under the draft's own command
+abbrev pub headed : Exchanges → ℕ → Draft → ℕ → Header
+headed x c d s = headedBy d (addressAt x c) s (d .command)
 
 -- "Commands 1 and 2 open a send, 4 a request": the mode that a command opens; any other opens none
 unfoldable pub modeOf : ℕ → ℕ
@@ -34,32 +34,32 @@ abbrev pub openingTests : List ℕ → Draft → ℕ → List Test
 openingTests out d l = roomTests out l 30 ++ ((isOpen (modeOf (d .command)) or-else COMMAND) ∷ [])
 
 -- "it writes the packet with the serial it would give": what the packet writer says of that header
-abbrev pub draftVerdict : List Row → Exchanges → List ℕ → Draft → ℕ → Verdict
-draftVerdict rs x out d l = inOrder (openingTests out d l) (packetVerdict rs out (headed d (found x .serial)) l)
+abbrev pub draftVerdict : List Row → Exchanges → ℕ → List ℕ → Draft → ℕ → Verdict
+draftVerdict rs x c out d l = inOrder (openingTests out d l) (packetVerdict rs out (headed x c d (found x c .serial)) l)
 
--- "Refusals: STATE, FULL, then the packet writer's"
-unfoldable pub begunVerdict : List Row → Exchanges → List ℕ → Draft → ℕ → Verdict
-begunVerdict rs x out d l = inOrder (beginTests x) (draftVerdict rs x out d l)
+-- "Refusals: STATE, FULL, then the packet writer's", with CENTRE after STATE
+unfoldable pub begunVerdict : List Row → Exchanges → ℕ → List ℕ → Draft → ℕ → Verdict
+begunVerdict rs x c out d l = inOrder (beginTests x c) (draftVerdict rs x c out d l)
 
 -- a beginning that was refused: zeros, and the table as it came
 abbrev pub unbegun : Exchanges → Verdict → Begun
 unbegun x v = record { verdict = v; place = 0; length = 0; serial = 0; state = x }
 
 -- "and only then opens the place": the place and serial that were found, the packet's 30+L bytes, and the table with the exchange entered
-unfoldable pub begun : List Row → Exchanges → List ℕ → Draft → ℕ → Begun
-begun rs x out d l =
-    let v = begunVerdict rs x out d l in
+unfoldable pub begun : List Row → Exchanges → ℕ → List ℕ → Draft → ℕ → Begun
+begun rs x c out d l =
+    let v = begunVerdict rs x c out d l in
     cond (isGood v)
     (record {
       verdict = v;
-      place = found x .place;
+      place = found x c .place;
       length = 30 + l;
-      serial = found x .serial;
-      state = entered x (found x .place) (found x .serial) (modeOf (d .command));
+      serial = found x c .serial;
+      state = entered x c (found x c .place) (found x c .serial) (modeOf (d .command));
     })
     (unbegun x v)
 
 -- the output: the packet around the unit that stands in it, and where anything is refused as it came
-unfoldable pub begunOutput : List Row → Exchanges → List ℕ → Draft → ℕ → List ℕ
-begunOutput rs x out d l =
-    cond (isGood (begunVerdict rs x out d l)) (writtenPacket rs out (headed d (found x .serial)) l) out
+unfoldable pub begunOutput : List Row → Exchanges → ℕ → List ℕ → Draft → ℕ → List ℕ
+begunOutput rs x c out d l =
+    cond (isGood (begunVerdict rs x c out d l)) (writtenPacket rs out (headed x c d (found x c .serial)) l) out

@@ -5,3 +5,4 @@ pub mod Calls
 pub mod Steps
 pub mod Logs
 pub mod Lives
+pub mod Centres

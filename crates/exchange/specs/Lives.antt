@@ -54,8 +54,8 @@ pub record Lived (t r k s : ℕ) (ls : List Line) : Type 0 where
   pub open-in-time : count isTick (upTo (ends k) ls) < (r + 1) * t
   -- "it is sent at most R+1 times, the first sending and each reported resend counted"
   pub sent-at-most : 1 + count (resends k) (life k ls) ≤ r + 1
-  -- "and its serial is given to no other while it is open", nor is its place; each tick tells of it under its serial
-  pub serial-its-own : count (gives s) (life k ls) ≡ 0
+  -- "and its serial is given to no other while it is open", within its centre (Q-11), nor is its place; each tick tells of it under its serial
+  pub serial-its-own : count (gives k s) (life k ls) ≡ 0
   pub place-its-own : count (begins k) (life k ls) ≡ 0
   pub told-by-serial : count (misnames k s) (life k ls) ≡ 0
   -- if no reply fits it, both bounds are reached: it fails at the (R+1)*T-th tick, sent R+1 times

@@ -9,7 +9,7 @@ use Rattle.verdict.specs.declared.Verdict.{Verdict}
 use Rattle.verdict.specs.Orders.{isGood}
 use Rattle.place.specs.Steps.{NOTHING, RESENT}
 use Rattle.places.specs.declared.Report.{Report}
-use Rattle.places.specs.Rows.{nothing}
+use Rattle.places.specs.Rows.{ownerOf, nothing}
 use Rattle.exchange.specs.declared.Exchanges.{Exchanges}
 use Rattle.exchange.specs.Calls.{begunBy, Call, begin, reply, tick, after}
 use Rattle.exchange.specs.Table.{answered, ticking}
@@ -23,7 +23,7 @@ pub data Line : Type 0 where
 
 unfoldable pub lineOf : Exchanges → Call → Line
 lineOf x (begin a) = let b = begunBy x a in of-begin (b .verdict) (b .place) (b .serial)
-lineOf x (reply s w) = let a = answered x s w in of-reply (a .verdict) (a .place) (a .outcome)
+lineOf x (reply a s w) = let y = answered x a s w in of-reply (y .verdict) (y .place) (y .outcome)
 lineOf x tick = let y = ticking x in of-tick (y .verdict) (y .reports)
 
 -- the log of a sequence of calls, by the line of each and the table that it gives back
@@ -39,16 +39,17 @@ isTick (of-begin v k s) = false
 isTick (of-reply v k o) = false
 isTick (of-tick v rs) = true
 
--- "it writes the packet .. and only then opens the place": whether a line is a beginning that was taken, at a place, or under a serial
+-- "it writes the packet .. and only then opens the place": whether a line is a beginning that was taken, at a place, or under a serial and of the centre
+-- that has a place
 unfoldable pub begins : ℕ → Line → Bool
 begins k (of-begin v j s) = isGood v && eqb k j
 begins k (of-reply v j o) = false
 begins k (of-tick v rs) = false
 
-unfoldable pub gives : ℕ → Line → Bool
-gives s (of-begin v j n) = isGood v && eqb s n
-gives s (of-reply v j o) = false
-gives s (of-tick v rs) = false
+unfoldable pub gives : ℕ → ℕ → Line → Bool
+gives k s (of-begin v j n) = isGood v && (eqb (ownerOf k) (ownerOf j) && eqb s n)
+gives k s (of-reply v j o) = false
+gives k s (of-tick v rs) = false
 
 -- what a line tells of a place: a reply answers one place, "The tick answers all sixteen places."
 unfoldable pub tells : ℕ → Line → ℕ

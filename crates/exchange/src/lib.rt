@@ -3,42 +3,55 @@ ghost use mathlib.Core.Path.{_≡_};
 ghost use mathlib.Core.Bool.{cond};
 ghost use Prim.Native.Nat.{_<_};
 ghost use Rattle.kinds.specs.Table.{rows};
+ghost use Rattle.octets.specs.Searches.{same};
 ghost use Rattle.place.specs.Rules.{isOpen};
 ghost use Rattle.verdict.specs.Orders.{refusal};
-ghost use Rattle.exchange.specs.Table.{inRange, legal, made, unfound, found, entered, stepped, untold, answered, ticking};
+ghost use Rattle.verdict.specs.Refusals.{STATE};
+ghost use Rattle.exchange.specs.Table.{settled, centreOf, addressAt, nextAt, made, unfound, blank, found, entered, stepped, untold, answered, unticked, ticking};
 ghost use Rattle.exchange.specs.Begins.{headedBy, modeOf, unbegun, begun, begunOutput};
 use label::Label;
 use packet::Header;
 use place::FREE;
-use place::NOTHING;
 use place::Place;
 use place::REQUEST;
 use place::Reply;
 use place::SEND;
 use places::Report;
 use places::Search;
+use verdict::CENTRE;
 use verdict::FULL;
 use verdict::SETTING;
 use verdict::STATE;
 use verdict::STRAY;
 use verdict::Verdict;
 
-// The sixteen places, the serial to try first, and the two settings.
+#[repr(C)]
+pub struct Address {
+    pub bytes: [u8; 6],
+}
+
+// A monitoring centre: its address, and the serial to try first for it.
+#[repr(C)]
+pub struct Centre {
+    pub address: Address,
+    pub next: u16,
+}
+
+// The sixteen places, eight for each centre, the two centres, and the two settings.
 #[repr(C)]
 pub struct Exchanges {
     pub places: [Place; 16],
-    pub next: u16,
+    pub centres: [Centre; 2],
     pub timeout: u8,
     pub resends: u8,
 }
 
-// What the header of a packet needs but its serial, which the table gives.
+// What the header of a packet needs but its serial and its destination, which the table gives.
 #[repr(C)]
 pub struct Draft {
     pub version: u8,
     pub label: Label,
     pub source: [u8; 6],
-    pub destination: [u8; 6],
     pub command: u8,
 }
 
@@ -65,11 +78,12 @@ pub struct Begun {
     pub state: Exchanges,
 }
 
+// The outcome is as wide as the numbers of the table behind it, so that no byte between them is padding.
 #[repr(C)]
 pub struct Replied {
     pub verdict: Verdict,
     pub place: usize,
-    pub outcome: u8,
+    pub outcome: u16,
     pub state: Exchanges,
 }
 
@@ -81,65 +95,53 @@ pub struct Ticked {
 }
 
 impl Exchanges {
-    // The table's limits: its places, the ticks of a timeout, and the resends.
-    pub const PLACES: usize = 16;
+    // The table's limits: its centres, the ticks of a timeout, and the resends.
+    pub const CENTRES: usize = 2;
 
     pub const LONGEST: u8 = 10;
 
     pub const MOST: u8 = 9;
 
-    // A fresh table; SETTING, with a table of zeros, where a limit is passed.
-    pub fn fresh(timeout: u8, resends: u8) -> Made
-        ensures { λ r. ⌜ r ≡ made timeout resends ⌝ }
+    // A fresh table; SETTING, with a table of zeros, where a limit is passed or the addresses are equal.
+    pub fn fresh(timeout: u8, resends: u8, first: Address, second: Address) -> Made
+        ensures { λ r. ⌜ r ≡ made timeout resends (first .bytes) (second .bytes) ⌝ }
     {
-        let places = [Place::free(); 16];
-        if !in_range(timeout, resends) {
+        if !is_settled(timeout, resends, first, second) {
+            let nowhere = Address { bytes: [0; 6] };
             return Made {
                 verdict: Verdict::refused(SETTING, 0),
-                state: Exchanges {
-                    places,
-                    next: 0,
-                    timeout: 0,
-                    resends: 0,
-                },
+                state: blank(0, 0, nowhere, nowhere),
             };
         }
         Made {
             verdict: Verdict::good(),
-            state: Exchanges {
-                places,
-                next: 0,
-                timeout,
-                resends,
-            },
+            state: blank(timeout, resends, first, second),
         }
     }
 
-    // Whether the state keeps its rules.
-    fn is_legal(self) -> bool
-        ensures { λ r. ⌜ r ≡ legal self ⌝ }
+    // Whether settings and addresses keep the state's rules.
+    fn is_settled(self) -> bool
+        ensures { λ r. ⌜ r ≡ settled (self .timeout) (self .resends) (addressAt self 0) (addressAt self 1) ⌝ }
     {
-        if !in_range(self.timeout, self.resends) {
-            return false;
-        }
-        let places = self.places;
-        places::are_sound(places, 0, Exchanges::PLACES, self.timeout, self.resends)
+        let centres = self.centres;
+        let first = centres[0];
+        let second = centres[1];
+        is_settled(self.timeout, self.resends, first.address, second.address)
     }
 
-    // The place and serial that a beginning would take.
-    fn find(self) -> Found
-        ensures { λ r. ⌜ r ≡ found self ⌝ }
+    // The place and serial that a beginning for a centre would take.
+    fn find(self, centre: usize) -> Found
+        ensures { λ r. ⌜ r ≡ found self centre ⌝ }
     {
-        let timeout = self.timeout;
-        let resends = self.resends;
-        if !in_range(timeout, resends) {
+        if !self.is_settled() {
             return unfound(STATE);
         }
+        let next = self.next_of(centre);
         let places = self.places;
-        let to = Exchanges::PLACES;
-        let search = places::find_opening(places, 0, to, timeout, resends, self.next);
+        let search = places::find_opening(places, centre, self.timeout, self.resends, next);
         match search {
             Search::Broken => unfound(STATE),
+            Search::Outside => unfound(CENTRE),
             Search::Nothing => unfound(FULL),
             Search::At(place, serial) => Found {
                 verdict: Verdict::good(),
@@ -149,10 +151,48 @@ impl Exchanges {
         }
     }
 
-    // The table with an exchange entered at a place.
-    fn enter(self, place: usize, serial: u16, mode: u8) -> Exchanges
+    // The serial to try first for a centre, which is asked only where there is such a centre.
+    fn next_of(self, centre: usize) -> u16
+        ensures { λ r. ⌜ (centre < 2 → r ≡ nextAt self centre) ⌝ }
+    {
+        if Exchanges::CENTRES <= centre {
+            return 0;
+        }
+        let centres = self.centres;
+        let c = centres[centre];
+        c.next
+    }
+
+    fn address_of(self, centre: usize) -> Address
+        requires { ⌜ centre < 2 ⌝ }
+        ensures { λ r. ⌜ r .bytes ≡ addressAt self centre ⌝ }
+    {
+        let centres = self.centres;
+        let c = centres[centre];
+        c.address
+    }
+
+    // The centre that has an address, 2 where none has it.
+    fn centre_of(self, address: Address) -> usize
+        ensures { λ r. ⌜ r ≡ centreOf self (address .bytes) ⌝ }
+    {
+        let centres = self.centres;
+        let first = centres[0];
+        if first.address.is(address) {
+            return 0;
+        }
+        let second = centres[1];
+        if second.address.is(address) {
+            return 1;
+        }
+        Exchanges::CENTRES
+    }
+
+    // The table with an exchange entered at a place of a centre.
+    fn enter(self, centre: usize, place: usize, serial: u16, mode: u16) -> Exchanges
+        requires { ⌜ centre < 2 ⌝ }
         requires { ⌜ place < 16 ⌝ }
-        ensures { λ r. ⌜ r ≡ entered self place serial mode ⌝ }
+        ensures { λ r. ⌜ r ≡ entered self centre place serial mode ⌝ }
     {
         let mut places = self.places;
         places[place] = Place {
@@ -161,20 +201,28 @@ impl Exchanges {
             resends: 0,
             age: 0,
         };
+        let mut centres = self.centres;
+        let c = centres[centre];
+        let address = c.address;
+        centres[centre] = Centre {
+            address,
+            next: places::after(serial),
+        };
         Exchanges {
             places,
-            next: places::after(serial),
+            centres,
             timeout: self.timeout,
             resends: self.resends,
         }
     }
 
-    // Writes a packet around the unit that stands from byte 28 of the output, and only then opens the place for it.
-    pub fn begin_and_write(self, out: &mut [u8], draft: Draft, length: usize) -> Begun
-        ensures { λ r. ⌜ r ≡ begun rows self (now (out .entry)) draft length ⌝ }
-        ensures { λ r. ⌜ now (out .exit) ≡ begunOutput rows self (now (out .entry)) draft length ⌝ }
+    // Writes a packet to a centre around the unit that stands from byte 28 of the output, and only then opens the place for it.
+    pub fn begin_and_write(self, centre: u8, out: &mut [u8], draft: Draft, length: usize) -> Begun
+        ensures { λ r. ⌜ r ≡ begun rows self centre (now (out .entry)) draft length ⌝ }
+        ensures { λ r. ⌜ now (out .exit) ≡ begunOutput rows self centre (now (out .entry)) draft length ⌝ }
     {
-        let found = self.find();
+        let named = centre as usize;
+        let found = self.find(named);
         let verdict = found.verdict;
         if !verdict.is_good() {
             return self.unbegun(verdict);
@@ -182,7 +230,8 @@ impl Exchanges {
         let place = found.place;
         let serial = found.serial;
         let command = opening_by(draft.command);
-        let written = output::write(out, draft.header(serial, command), length);
+        let header = draft.header(self.address_of(named), serial, command);
+        let written = output::write(out, header, length);
         if !written.is_good() {
             return self.unbegun(written);
         }
@@ -191,7 +240,7 @@ impl Exchanges {
             place,
             length: 30 + length,
             serial,
-            state: self.enter(place, serial, mode_of(draft.command)),
+            state: self.enter(named, place, serial, mode_of(draft.command)),
         }
     }
 
@@ -208,20 +257,26 @@ impl Exchanges {
         }
     }
 
-    // The step of the exchange that a reply fits; STRAY where it fits none.
-    pub fn reply(self, serial: u16, reply: Reply) -> Replied
-        ensures { λ r. ⌜ r ≡ answered self serial reply ⌝ }
+    // The step of the exchange that a reply fits, of the centre that has its source address; STRAY where it fits none.
+    pub fn reply(self, source: Address, serial: u16, reply: Reply) -> Replied
+        ensures { λ r. ⌜ r ≡ answered self (source .bytes) serial reply ⌝ }
     {
-        let timeout = self.timeout;
-        let resends = self.resends;
-        if !in_range(timeout, resends) {
+        if !self.is_settled() {
             return self.unanswered(STATE);
         }
+        let centre = self.centre_of(source);
         let places = self.places;
-        let to = Exchanges::PLACES;
-        let search = places::find_fitting(places, 0, to, timeout, resends, serial, reply);
+        let search = places::find_fitting(
+            places,
+            centre,
+            self.timeout,
+            self.resends,
+            serial,
+            reply,
+        );
         match search {
             Search::Broken => self.unanswered(STATE),
+            Search::Outside => self.unanswered(STRAY),
             Search::Nothing => self.unanswered(STRAY),
             Search::At(place, _) => self.step(place, reply),
         }
@@ -237,13 +292,14 @@ impl Exchanges {
         let step = p.replied(reply, self.resends);
         let now = step.place;
         places[place] = now;
+        let centres = self.centres;
         Replied {
             verdict: Verdict::good(),
             place,
-            outcome: step.outcome,
+            outcome: step.outcome as u16,
             state: Exchanges {
                 places,
-                next: self.next,
+                centres,
                 timeout: self.timeout,
                 resends: self.resends,
             },
@@ -257,7 +313,7 @@ impl Exchanges {
         Replied {
             verdict: Verdict::refused(number, 0),
             place: 0,
-            outcome: NOTHING,
+            outcome: places::UNTOLD,
             state: self,
         }
     }
@@ -266,41 +322,63 @@ impl Exchanges {
     pub fn tick(self) -> Ticked
         ensures { λ r. ⌜ r ≡ ticking self ⌝ }
     {
-        if !self.is_legal() {
-            return Ticked {
-                verdict: Verdict::refused(STATE, 0),
-                reports: [Report {
-                    outcome: NOTHING,
-                    serial: 0,
-                }; 16],
-                state: self,
-            };
+        if !self.is_settled() {
+            return self.unticked();
         }
         let places = self.places;
         let all = places::tick_all(places, self.timeout, self.resends);
+        if !all.sound {
+            return self.unticked();
+        }
         let now = all.places;
         let reports = all.reports;
+        let centres = self.centres;
         Ticked {
             verdict: Verdict::good(),
             reports,
             state: Exchanges {
                 places: now,
-                next: self.next,
+                centres,
                 timeout: self.timeout,
                 resends: self.resends,
             },
         }
     }
+
+    // A tick that was refused.
+    fn unticked(self) -> Ticked
+        ensures { λ r. ⌜ r ≡ unticked self (refusal STATE 0) ⌝ }
+    {
+        Ticked {
+            verdict: Verdict::refused(STATE, 0),
+            reports: [Report {
+                outcome: places::UNTOLD,
+                serial: 0,
+            }; 16],
+            state: self,
+        }
+    }
+}
+
+impl Address {
+    // Whether two addresses are equal.
+    fn is(self, other: Address) -> bool
+        ensures { λ r. ⌜ r ≡ same (self .bytes) (other .bytes) ⌝ }
+    {
+        let a = self.bytes;
+        let b = other.bytes;
+        octets::same_six(a, b)
+    }
 }
 
 impl Draft {
-    // The header under a serial and a command.
-    fn header(self, serial: u16, command: u8) -> Header
-        ensures { λ r. ⌜ r ≡ headedBy self serial command ⌝ }
+    // The header under a destination, a serial and a command.
+    fn header(self, to: Address, serial: u16, command: u8) -> Header
+        ensures { λ r. ⌜ r ≡ headedBy self (to .bytes) serial command ⌝ }
     {
         let label = self.label;
         let source = self.source;
-        let destination = self.destination;
+        let destination = to.bytes;
         Header {
             serial,
             version: self.version,
@@ -313,7 +391,7 @@ impl Draft {
 }
 
 // The mode that a command opens.
-fn mode_of(command: u8) -> u8
+fn mode_of(command: u8) -> u16
     ensures { λ r. ⌜ r ≡ modeOf command ⌝ }
 {
     if command == 1 {
@@ -348,8 +426,31 @@ fn unfound(number: u8) -> Found
     }
 }
 
-fn in_range(timeout: u8, resends: u8) -> bool
-    ensures { λ r. ⌜ r ≡ inRange timeout resends ⌝ }
+// A table with no exchange open.
+fn blank(timeout: u8, resends: u8, first: Address, second: Address) -> Exchanges
+    ensures { λ r. ⌜ r ≡ blank timeout resends (first .bytes) (second .bytes) ⌝ }
+{
+    let places = [Place::free(); 16];
+    let one = Centre {
+        address: first,
+        next: 0,
+    };
+    let other = Centre {
+        address: second,
+        next: 0,
+    };
+    let centres = [one, other];
+    Exchanges {
+        places,
+        centres,
+        timeout,
+        resends,
+    }
+}
+
+// Whether the settings are in range and the addresses differ.
+fn is_settled(timeout: u8, resends: u8, first: Address, second: Address) -> bool
+    ensures { λ r. ⌜ r ≡ settled timeout resends (first .bytes) (second .bytes) ⌝ }
 {
     if timeout < 1 {
         return false;
@@ -357,5 +458,8 @@ fn in_range(timeout: u8, resends: u8) -> bool
     if Exchanges::LONGEST < timeout {
         return false;
     }
-    resends <= Exchanges::MOST
+    if Exchanges::MOST < resends {
+        return false;
+    }
+    !first.is(second)
 }

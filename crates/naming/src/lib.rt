@@ -59,6 +59,7 @@ fn verdict_name(number: u8) -> Name
         verdict::ORPHAN => named(*b"ORPHAN\0\0\0", 6),
         verdict::TAIL => named(*b"TAIL\0\0\0\0\0", 4),
         verdict::UNLISTED => named(*b"UNLISTED\0", 8),
+        verdict::CENTRE => named(*b"CENTRE\0\0\0", 6),
         _ => named([0; 9], 0),
     }
 }

@@ -6,6 +6,7 @@ pub mod Copying
 pub mod Searches
 pub mod Rows
 pub mod Fill
+pub mod Alike
 pub mod Flags
 pub mod Asked
 pub mod Examples

@@ -28,6 +28,13 @@ unfoldable pub every : {A : Type 0} → (A → Bool) → List A → Bool
 every f [] = true
 every f (x ∷ xs) = f x && every f xs
 
+-- whether two lists have the same numbers
+unfoldable pub same : List ℕ → List ℕ → Bool
+same [] [] = true
+same [] (y ∷ ys) = false
+same (x ∷ xs) [] = false
+same (x ∷ xs) (y ∷ ys) = eqb x y && same xs ys
+
 -- "reads zero"
 abbrev pub allZero : List ℕ → Bool
 allZero = every (λ b. eqb b 0)

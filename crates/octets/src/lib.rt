@@ -5,6 +5,7 @@ ghost use Prim.Native.Nat.{_+_, _*_, _<_, _%_};
 ghost use lib.ListN.{getD, take, drop};
 ghost use Rattle.octets.specs.Numbers.{lowFirst, bytesOf, signedOf, bitsOf};
 ghost use Rattle.octets.specs.Parts.{part, partPlace, putAt, oneByOne};
+ghost use Rattle.octets.specs.Searches.{same};
 ghost use Rattle.octets.specs.Sums.{total};
 
 // The byte at a place, 0 behind the end.
@@ -74,6 +75,20 @@ pub fn six_at(s: &[u8], at: usize) -> [u8; 6]
         ];
     }
     [s[at], s[at + 1], s[at + 2], s[at + 3], s[at + 4], s[at + 5]]
+}
+
+// Whether six bytes are the same as six others.
+pub fn same_six(a: [u8; 6], b: [u8; 6]) -> bool
+    ensures { λ r. ⌜ r ≡ same a b ⌝ }
+{
+    let mut i: usize = 0;
+    while i < 6 {
+        if a[i] != b[i] {
+            return false;
+        }
+        i = i + 1;
+    }
+    true
 }
 
 pub fn two_bytes(x: u16) -> [u8; 2]

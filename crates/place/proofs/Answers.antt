@@ -1,24 +1,24 @@
 -- What each way out of a place's calls answers, from the tests that led there. Assumes nothing.
-use Prim.Native.Nat.{ℕ, _+_, _*_, _≤_, _<_}
+use Prim.Native.Nat.{ℕ, _+_, _≤_, _<_}
 use native.Mathlib.Omega.{arith}
-use mathlib.Core.Bool.{Bool, true, false, not, _&&_, and-eq-true-iff}
+use mathlib.Core.Bool.{Bool, false, not, _&&_, and-eq-true-iff}
 use mathlib.Core.Path.{_≡_, sym, ap, _∙_}
 use borrow.Author.Tests.{lt-ltb, le-ltb, eqb-true, eq-eqb}
-use lib.Dec.{eqb, leb}
-use Rattle.octets.proofs.Flags.{on, off, both-or-none}
+use lib.Dec.{eqb}
+use Rattle.octets.proofs.Flags.{on, both-or-none}
 use Rattle.place.specs.declared.Place.{Place}
 use Rattle.place.specs.declared.Reply.{Reply}
 use Rattle.place.specs.declared.Reply.the-variants.{Confirm, Answer, Deny, BadAnswer}
 use Rattle.place.specs.declared.Step.{Step}
-use Rattle.place.specs.Rules.{free, isOpen, isZero, keeps}
+use Rattle.place.specs.Rules.{free, isOpen, isZero, weight}
 use Rattle.place.specs.Steps.{NOTHING, CONFIRMED, ANSWERED, RESENT, FAILED, becomes, onceMore, oneOlder, denied, ticked, replied}
 
 module _ (p : Place) where
   -- all zero, of the numbers as one
-  pub as-one : eqb (p .serial + p .mode * 65536 + (p .resends * 16777216 + p .age * 4294967296)) 0 ≡ isZero p
+  pub as-one : eqb (weight p) 0 ≡ isZero p
   unfolding isZero
   as-one =
-      let n = p .serial + p .mode * 65536 + (p .resends * 16777216 + p .age * 4294967296) in
+      let n = weight p in
       both-or-none (eqb n 0) (eqb (p .serial) 0 && eqb (p .mode) 0 && eqb (p .resends) 0 && eqb (p .age) 0)
       (λ t.
       let e = eqb-true n 0 t in
@@ -36,22 +36,6 @@ module _ (p : Place) where
   -- open, or not
   module _ (o : Bool) (told : o ≡ isOpen (p .mode)) where
     module _ (t r : ℕ) where
-      pub young : o ≡ true → p .age < t → leb (p .resends) r ≡ keeps t r p
-      unfolding keeps
-      young e h = simp (sym told ∙ e, lt-ltb _ _ h)
-
-      pub too-old : o ≡ true → t ≤ p .age → false ≡ keeps t r p
-      unfolding keeps
-      too-old e h = simp (sym told ∙ e, le-ltb _ _ h)
-
-      pub a-free-place : (z : Bool) → o ≡ false → z ≡ isZero p → z ≡ keeps t r p
-      unfolding keeps
-      a-free-place z e q = q ∙ simp (sym told ∙ e)
-
-      pub no-tick : not o ≡ true → becomes p NOTHING ≡ ticked t r p
-      unfolding ticked
-      no-tick n = simp (off told n)
-
       pub older : not o ≡ false → p .age + 1 < t → becomes (oneOlder p) NOTHING ≡ ticked t r p
       unfolding ticked
       older n h = simp (on told n, lt-ltb _ _ h)
@@ -88,6 +72,4 @@ module _ (p : Place) where
       unfolding replied
       by-bad-answer s e q = q ∙ ap (λ (x : Reply). replied r x p) (sym e)
 
-pub ruleset asked = (young, too-old, a-free-place)
-
-pub ruleset stepping = (no-tick, older, run-out, sent-again, has-failed, by-confirm, by-answer, by-deny, by-bad-answer)
+pub ruleset stepping = (sent-again, has-failed, by-confirm, by-answer, by-deny, by-bad-answer)

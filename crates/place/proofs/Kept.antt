@@ -107,6 +107,15 @@ module _ (p : Place) where
       by-mode true k = refl
       by-mode false k = absurd (false≢true (sym z ∙ k))
 
+  -- of a place that is not of zeros: it is open, young and not sent too often
+  pub kept-as-open : (t r : ℕ) → isZero p ≡ false → isOpen (p .mode) && (ltb (p .age) t && leb (p .resends) r) ≡ keeps t r p
+  unfolding keeps
+  kept-as-open t r z = by-mode (isOpen (p .mode))
+    where
+      by-mode : (o : Bool) → o && (ltb (p .age) t && leb (p .resends) r) ≡ cond o (ltb (p .age) t && leb (p .resends) r) (isZero p)
+      by-mode true = refl
+      by-mode false = sym z
+
 -- a step keeps the rules
 module _ (t r : ℕ) (p : Place) (some : 1 ≤ t) where
   pub denied-keeps : isOpen (p .mode) ≡ true → keeps t r (denied r p .place) ≡ true

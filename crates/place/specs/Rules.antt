@@ -1,6 +1,6 @@
 -- One place of the exchange table (document 01, "Open exchanges"; 001, 6.5), and its part of the state's rules.
 -- Assumes nothing.
-use Prim.Native.Nat.{ℕ}
+use Prim.Native.Nat.{ℕ, _+_, _*_}
 use mathlib.Core.Bool.{Bool, _&&_, _||_, cond}
 use lib.Dec.{leb, ltb, eqb}
 use Rattle.place.specs.declared.Place.{Place}
@@ -28,6 +28,10 @@ isOpen m = eqb m SEND || eqb m REQUEST
 
 unfoldable pub isZero : Place → Bool
 isZero p = eqb (p .serial) 0 && eqb (p .mode) FREE && eqb (p .resends) 0 && eqb (p .age) 0
+
+-- its numbers as one
+abbrev pub weight : Place → ℕ
+weight p = p .serial + p .mode * 65536 + (p .resends + p .age * 65536) * 4294967296
 
 -- open under a serial
 unfoldable pub holds : ℕ → Place → Bool

@@ -1,14 +1,15 @@
-// One place of the exchange table, and what a reply and a tick make of it.
+// One place of the exchange table, and what a reply and a denial make of it.
 ghost use mathlib.Core.Path.{_≡_};
-ghost use Rattle.place.specs.Rules.{free, isOpen, isZero, keeps};
-ghost use Rattle.place.specs.Steps.{outcomes, awaits, denied, ticked, replied};
+ghost use lib.Dec.{eqb};
+ghost use Rattle.place.specs.Rules.{free, isOpen, isZero, weight};
+ghost use Rattle.place.specs.Steps.{outcomes, awaits, denied, replied};
 
 // A mode is a number, as C sees it; free is 0, so that a place of zeros is the free one.
-pub const FREE: u8 = 0;
+pub const FREE: u16 = 0;
 
-pub const SEND: u8 = 1;
+pub const SEND: u16 = 1;
 
-pub const REQUEST: u8 = 2;
+pub const REQUEST: u16 = 2;
 
 // What is told of an exchange, in numbers that no refusal has.
 pub const NOTHING: u8 = 0;
@@ -21,12 +22,13 @@ pub const RESENT: u8 = 42;
 
 pub const FAILED: u8 = 43;
 
+// Four numbers of one width, eight bytes in all, so that a place is copied and tested for zero as one number.
 #[repr(C)]
 pub struct Place {
     pub serial: u16,
-    pub mode: u8,
-    pub resends: u8,
-    pub age: u8,
+    pub mode: u16,
+    pub resends: u16,
+    pub age: u16,
 }
 
 // What a reply's packet is; a bad answer is an answer that was refused at VERSION or later.
@@ -51,7 +53,7 @@ pub fn all_outcomes() -> [u8; 5]
 }
 
 // Whether a place of this mode holds an exchange.
-pub fn is_open(mode: u8) -> bool
+pub fn is_open(mode: u16) -> bool
     ensures { λ r. ⌜ r ≡ isOpen mode ⌝ }
 {
     if mode == SEND {
@@ -61,7 +63,7 @@ pub fn is_open(mode: u8) -> bool
 }
 
 // Whether an exchange of this mode waits for such a reply.
-pub fn awaits(mode: u8, reply: Reply) -> bool
+pub fn awaits(mode: u16, reply: Reply) -> bool
     ensures { λ r. ⌜ r ≡ awaits mode reply ⌝ }
 {
     match reply {
@@ -85,26 +87,14 @@ impl Place {
         }
     }
 
-    // Whether the place alone keeps the state's rules.
-    pub fn keeps(self, timeout: u8, resends: u8) -> bool
-        ensures { λ r. ⌜ r ≡ keeps timeout resends self ⌝ }
-    {
-        if is_open(self.mode) {
-            if self.age < timeout {
-                return self.resends <= resends;
-            }
-            return false;
-        }
-        self.is_zero()
-    }
-
-    // Whether the place is all zero: its numbers as one, so that they are compared at once.
-    pub fn is_zero(self) -> bool
-        ensures { λ r. ⌜ r ≡ isZero self ⌝ }
+    // The place's numbers as one, which is 0 exactly where the place is all zero.
+    pub fn weight(self) -> u64
+        ensures { λ r. ⌜ eqb r 0 ≡ isZero self ⌝ }
+        ensures { λ r. ⌜ r ≡ weight self ⌝ }
     {
         let low = (self.serial as u64) + (self.mode as u64) * 65536;
-        let high = (self.resends as u64) * 16777216 + (self.age as u64) * 4294967296;
-        low + high == 0
+        let high = (self.resends as u64) + (self.age as u64) * 65536;
+        low + high * 4294967296
     }
 
     // A denial: sent again while fewer than `resends` were made, else failed and freed.
@@ -112,7 +102,7 @@ impl Place {
         ensures { λ r. ⌜ r ≡ denied resends self ⌝ }
     {
         let freed = Place::free();
-        if self.resends < resends {
+        if self.resends < (resends as u16) {
             return Step {
                 place: Place {
                     serial: self.serial,
@@ -127,30 +117,6 @@ impl Place {
             place: freed,
             outcome: FAILED,
         }
-    }
-
-    // A tick: an open place is one older, and at the timeout denied.
-    pub fn ticked(self, timeout: u8, resends: u8) -> Step
-        ensures { λ r. ⌜ r ≡ ticked timeout resends self ⌝ }
-    {
-        if !is_open(self.mode) {
-            return Step {
-                place: self,
-                outcome: NOTHING,
-            };
-        }
-        if (self.age as u16) + 1 < (timeout as u16) {
-            return Step {
-                place: Place {
-                    serial: self.serial,
-                    mode: self.mode,
-                    resends: self.resends,
-                    age: self.age + 1,
-                },
-                outcome: NOTHING,
-            };
-        }
-        self.denied(resends)
     }
 
     // What a reply that fits makes of the place.

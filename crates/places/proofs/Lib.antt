@@ -2,7 +2,6 @@ pub mod Counting
 pub mod Serials
 pub mod Rules
 pub mod Held
-pub mod Ends
 pub mod Sought
 mod Reaching
 mod Loops

@@ -1,264 +1,329 @@
 -- The pass over the places and the search for a serial: what holds at a turn, at first, one turn more, and at each way out. Assumes nothing.
-use Prim.Native.Nat.{ℕ, zero, suc, _+_, _-_, _≤_, _<_, min}
+use Prim.Native.Nat.{ℕ, zero, suc, _+_, _*_, _-_, _≤_, _<_}
 use native.Mathlib.Omega.{arith}
-use mathlib.Core.Bool.{Bool, true, false, not, _&&_, _||_, false≢true, and-false}
+use mathlib.Core.Bool.{Bool, true, false, not, _&&_, false≢true}
 use mathlib.Core.List.{List}
 use mathlib.Core.Path.{_≡_, refl, sym, ap, subst, subst⁻¹, _∙_}
 use lib.Arith.{lt-of-le-ne}
-use lib.Dec.{eqb, ltb}
+use lib.Dec.{eqb, ltb, leb}
 use lib.ListN.{length, getD, set, replicate, length-set}
-use borrow.Author.Tests.{not-true, not-false, ltb-true, ltb-false, le-leb, lt-leb, eq-eqb, ne-eqb, eqb-true, eqb-false}
-use Rattle.octets.specs.Searches.{firstFit, anyFits}
+use lib.Bits.{bitOr, or-zero-l, or-add-and, and-le-r}
+use lib.Seq.{getD-set-same, getD-set-other}
+use borrow.Author.Tests.{eq-eqb, ne-eqb, eqb-true, eqb-false, lt-ltb, le-ltb}
+use Rattle.octets.specs.Searches.{firstFit}
 use Rattle.octets.proofs.Flags.{by-test, on, off}
-use Rattle.octets.proofs.Searches.{first-from, first-here, first-on, first-end, any-on}
+use Rattle.octets.proofs.Searches.{first-here, first-on, first-end}
 use Rattle.place.specs.declared.Place.{Place}
 use Rattle.place.specs.Rules.{isOpen, isZero, keeps}
-use Rattle.place.proofs.Kept.{zero-free, zero-keeps, kept-open}
-use Rattle.places.specs.declared.Search.the-variants.{Broken, Nothing, At}
-use Rattle.places.specs.declared.Seen.{Seen}
-use Rattle.places.specs.Rows.{placeAt, freeAt, keepsAt, lowestFree, doubleAt, twice, allKeep, areSound, upward, opening}
-use Rattle.places.specs.Held.{NONE, heldBy, Held, standsIn, bareAt, freeIn, serialIn, Surveyed}
-use Rattle.places.proofs.Ends.{keep-behind, closed-behind}
-use Rattle.places.proofs.Held.{held-none, held-more, held-on, held-from, serial-in-row, free-in-row, double-by-row, none-behind, double-found, none-found}
-use Rattle.places.proofs.Rules.{keep-each, each-keep}
+use Rattle.place.proofs.Kept.{zero-free, zero-keeps, kept-open, kept-as-open}
+use Rattle.places.specs.declared.Search.the-variants.{Broken, Outside, Nothing, At}
+use Rattle.places.specs.declared.Swept.{Swept}
+use Rattle.places.specs.Rows.{placeAt, keepsAt, lowestFree, doubleAt, lowOf, endOf, ownerOf, allSound, upward, sought, opening, unswept, swept}
+use Rattle.places.specs.Held.{NONE, heldBy, Held, standsIn, bareAt, freeIn, serialIn, Weighed, Past}
+use Rattle.places.proofs.Held.{held-none, held-more, held-on, serial-in-row, free-in-row, double-by-row}
+use Rattle.places.proofs.Rules.{sound-keeps, sound-single, each-sound}
 use Rattle.places.proofs.Serials.{upward-none, upward-more}
-use Rattle.places.proofs.Sought.{when-broken, when-nothing, when-at}
+use Rattle.places.proofs.Sought.{when-broken, when-outside, when-nothing, when-at}
 
--- from the last place down to i: each keeps the rules for a place, none is open under a serial that is open further on, and the row has what
--- they hold
-pub record Looked (t r : ℕ) (ps : List Place) (from to : ℕ) (row : List ℕ) (i : ℕ) : Type 0 where
-  pub least : i ≤ to
-  pub few : i ≤ 16
-  pub low : min from (min to 16) ≤ i
-  pub long : length row ≡ 16
-  pub held : Held row ps i to
-  pub kept : allKeep t r ps i to ≡ true
-  pub none : anyFits (doubleAt ps to) i (to - i) ≡ false
-  pub small : (k : ℕ) → i ≤ k → k < to → isOpen (placeAt ps k .mode) ≡ true → placeAt ps k .serial < 65536
+-- the numbers of the places before i
+pub record Weighing (ps : List Place) (ws : List ℕ) (i : ℕ) : Type 0 where
+  pub long : length ws ≡ 16
+  pub told : (k : ℕ) → k < i → eqb (getD ws k 0) 0 ≡ isZero (placeAt ps k)
 
-module _ (t r : ℕ) (ps : List Place) (from to : ℕ) (long : length ps ≡ 16) where
-  -- before the first turn
-  pub looked-none : (i : ℕ) → i ≡ min to 16 → Looked t r ps from to (replicate 16 NONE) i
-  looked-none i e =
-      record {
-        least = omega arith;
-        few = omega arith;
-        low = omega arith;
-        long = refl;
-        held = subst⁻¹ (λ (k : ℕ). Held (replicate 16 NONE) ps k to) e (held-none ps to);
-        kept = keep-behind ps long t r i to (omega arith);
-        none = subst⁻¹ (λ (k : ℕ). anyFits (doubleAt ps to) k (to - k) ≡ false) e (none-behind ps to long);
-        small = λ k l h o. absurd (false≢true (sym (closed-behind ps long k (omega arith)) ∙ o));
-      }
+module _ (ps : List Place) where
+  pub none-weighed : Weighing ps (replicate 16 0) 0
+  none-weighed = record { long = refl; told = λ k h. absurd (omega arith) }
 
-  -- z is whether the place is all zero
-  module _ (row : List ℕ) (i : ℕ) (below : from < i) (s : Looked t r ps from to row i) (z : Bool) (zero : z ≡ isZero (placeAt ps (i - 1))) where
-    up : i - 1 + 1 ≡ i
-    up = omega arith
-
-    more-kept : keeps t r (placeAt ps (i - 1)) ≡ true → allKeep t r ps (i - 1) to ≡ true
-    unfolding allKeep
-    more-kept k =
-        ap not (any-on (λ (j : ℕ). not (keepsAt t r ps j)) (i - 1) to (omega (arith, s .least)) (ap not k))
-        ∙ ap (λ (j : ℕ). allKeep t r ps j to) up
-        ∙ s .kept
-
-    more-single : doubleAt ps to (i - 1) ≡ false → anyFits (doubleAt ps to) (i - 1) (to - (i - 1)) ≡ false
-    more-single d =
-        any-on (doubleAt ps to) (i - 1) to (omega (arith, s .least)) d
-        ∙ ap (λ (j : ℕ). anyFits (doubleAt ps to) j (to - j)) up
-        ∙ s .none
-
-    more-small : (isOpen (placeAt ps (i - 1) .mode) ≡ true → placeAt ps (i - 1) .serial < 65536)
-        → (k : ℕ) → i - 1 ≤ k → k < to → isOpen (placeAt ps k .mode) ≡ true → placeAt ps k .serial < 65536
-    more-small own k l h =
-        by-test (eqb k (i - 1))
-        (λ e. subst⁻¹ (λ (j : ℕ). isOpen (placeAt ps j .mode) ≡ true → placeAt ps j .serial < 65536) (eqb-true k (i - 1) e) own)
-        (λ e. s .small k (let n = eqb-false k (i - 1) e in let m : i - 1 < k = lt-of-le-ne l (λ q. n (sym q)) in omega arith) h)
-
-    -- a free one
-    pub looked-free : not z ≡ false → Looked t r ps from to row (i - 1)
-    looked-free e =
-        let yes = on zero e in
-        let o = zero-free (placeAt ps (i - 1)) yes in
+  module _ (ws : List ℕ) (i : ℕ) (s : Weighing ps ws i) where
+    pub one-weighed : (x : ℕ) → i < 16 → eqb x 0 ≡ isZero (placeAt ps i) → Weighing ps (set ws i x) (i + 1)
+    one-weighed x h e =
         record {
-          least = omega (arith, s .least);
-          few = omega (arith, s .few);
-          low = omega arith;
-          long = s .long;
-          held = held-on ps to row i (i - 1) (omega arith) o (s .held);
-          kept = more-kept (zero-keeps (placeAt ps (i - 1)) t r yes);
-          none = more-single (simp o);
-          small = more-small (λ a. absurd (false≢true (sym o ∙ a)));
+          long = length-set ws i x ∙ s .long;
+          told =
+              λ k l.
+              by-test (eqb k i)
+              (λ q.
+              let same : k ≡ i = eqb-true k i q in
+              subst⁻¹ (λ (n : ℕ). eqb (getD (set ws i x) n 0) 0 ≡ isZero (placeAt ps n)) same
+              (ap (λ (n : ℕ). eqb n 0) (getD-set-same ws i x 0 (omega (arith, s .long))) ∙ e))
+              (λ q.
+              let other = eqb-false k i q in
+              ap (λ (n : ℕ). eqb n 0) (getD-set-other ws i k x 0 other) ∙ s .told k (omega (arith, lt-of-le-ne (omega arith) other)));
         }
 
-    unsound : false ≡ areSound t r ps from to → Surveyed t r ps from to (record { sound = false; row = row })
-    unsound e = record { sound = e; held = λ f. absurd (false≢true f); small = λ f. absurd (false≢true f) }
+    pub all-weighed : 16 ≤ i → Weighed ps ws
+    all-weighed h = record { tells = λ k l. s .told k (omega arith) }
 
-    -- k is whether it keeps the rules for a place
-    module _ (n : not z ≡ true) (k : Bool) (keeping : k ≡ keeps t r (placeAt ps (i - 1))) where
-      pub one-breaks : not k ≡ true → Surveyed t r ps from to (record { sound = false; row = row })
-      unfolding areSound
+pub ruleset weighing = (none-weighed, one-weighed, all-weighed)
+
+-- the bits of the numbers before i
+or-is-zero : (a b : ℕ) → bitOr a b ≡ 0 → (a ≡ 0) × (b ≡ 0)
+or-is-zero zero b e = (refl, sym (or-zero-l b) ∙ e)
+or-is-zero (suc a) b e = absurd (omega (arith, e, or-add-and (suc a) b, and-le-r (suc a) b))
+
+pub record Gathered (ws : List ℕ) (bits i : ℕ) : Type 0 where
+  pub none : bits ≡ 0 → (k : ℕ) → k < i → getD ws k 0 ≡ 0
+
+module _ (ws : List ℕ) where
+  pub none-gathered : Gathered ws 0 0
+  none-gathered = record { none = λ z k h. absurd (omega arith) }
+
+  module _ (bits i : ℕ) (g : Gathered ws bits i) where
+    pub one-gathered : Gathered ws (bitOr bits (getD ws i 0)) (i + 1)
+    one-gathered =
+        record {
+          none =
+              λ z k h.
+              let both = or-is-zero bits (getD ws i 0) z in
+              by-test (eqb k i)
+              (λ q. ap (λ (n : ℕ). getD ws n 0) (eqb-true k i q) ∙ both .1)
+              (λ q. g .none (both .0) k (let n = eqb-false k i q in let m : k < i = lt-of-le-ne (omega arith) n in m));
+        }
+
+    pub all-free : 16 ≤ i → bits ≡ 0 → Past ws 0
+    all-free out z = record { few = omega arith; none = λ k l h. g .none z k (omega arith) }
+
+  pub some-open : Past ws 16
+  some-open = record { few = omega arith; none = λ k l h. absurd (omega arith) }
+
+pub ruleset gathering = (none-gathered, one-gathered, all-free, some-open)
+
+-- whether numbers are those of an open place that keeps the rules, by the tests
+module _ (m n a t r : ℕ) (o : Bool) (told : o ≡ isOpen m) where
+  pub kept-shut : not o ≡ true → false ≡ isOpen m && (ltb a t && leb n r)
+  kept-shut e = simp (off told e)
+
+  pub kept-young : not o ≡ false → a < t → leb n r ≡ isOpen m && (ltb a t && leb n r)
+  kept-young e h = simp (on told e, lt-ltb a t h)
+
+  pub kept-old : not o ≡ false → t ≤ a → false ≡ isOpen m && (ltb a t && leb n r)
+  kept-old e h = simp (on told e, le-ltb a t h)
+
+pub ruleset kept-by-tests = (kept-shut, kept-young, kept-old)
+
+-- from the last place down to i: each keeps the rules for a place, none is open under a serial that is open further on in its centre, and the row has
+-- what they hold
+pub record Looked (t r : ℕ) (ps : List Place) (row : List ℕ) (i : ℕ) : Type 0 where
+  pub few : i ≤ 16
+  pub long : length row ≡ 16
+  pub held : Held row ps i
+  pub kept : (k : ℕ) → i ≤ k → k < 16 → keepsAt t r ps k ≡ true
+  pub single : (k : ℕ) → i ≤ k → k < 16 → doubleAt ps (endOf (ownerOf k)) k ≡ false
+  pub small : (k : ℕ) → i ≤ k → k < 16 → isOpen (placeAt ps k .mode) ≡ true → placeAt ps k .serial < 65536
+
+-- what holds of a place and of all behind it
+one-more : (P : ℕ → Type 0) (i : ℕ) → 0 < i → P (i - 1) → ((k : ℕ) → i ≤ k → k < 16 → P k) → (k : ℕ) → i - 1 ≤ k → k < 16 → P k
+one-more P i below here behind k l h =
+    by-test (eqb k (i - 1))
+    (λ e. subst⁻¹ P (eqb-true k (i - 1) e) here)
+    (λ e. behind k (let n = eqb-false k (i - 1) e in let m : i - 1 < k = lt-of-le-ne l (λ q. n (sym q)) in omega arith) h)
+
+module _ (t r : ℕ) (ps : List Place) where
+  -- before the first turn
+  pub looked-none : Looked t r ps (replicate 16 NONE) 16
+  looked-none =
+      record {
+        few = omega arith;
+        long = refl;
+        held = held-none ps;
+        kept = λ k l h. absurd (omega arith);
+        single = λ k l h. absurd (omega arith);
+        small = λ k l h o. absurd (omega arith);
+      }
+
+  -- ws is the places' numbers
+  module _ (row : List ℕ) (i : ℕ) (below : 0 < i) (s : Looked t r ps row i) (ws : List ℕ) (w : Weighed ps ws) where
+    abbrev p : Place
+    p = placeAt ps (i - 1)
+
+    -- a free one
+    pub looked-free : getD ws (i - 1) 0 ≡ 0 → Looked t r ps row (i - 1)
+    looked-free e =
+        let yes = sym (w .tells (i - 1) (omega (arith, s .few))) ∙ eq-eqb (getD ws (i - 1) 0) 0 e in
+        let o = zero-free p yes in
+        record {
+          few = omega (arith, s .few);
+          long = s .long;
+          held = held-on ps row i (i - 1) (omega arith) o (s .held);
+          kept = one-more (λ k. keepsAt t r ps k ≡ true) i below (zero-keeps p t r yes) (s .kept);
+          single = one-more (λ k. doubleAt ps (endOf (ownerOf k)) k ≡ false) i below (simp o) (s .single);
+          small = one-more (λ k. isOpen (placeAt ps k .mode) ≡ true → placeAt ps k .serial < 65536) i below (λ a. absurd (false≢true (sym o ∙ a))) (s .small);
+        }
+
+    -- k is whether it is open and keeps the rules for a place
+    module _ (n : getD ws (i - 1) 0 ≡ 0 → ⊥) (k : Bool) (open-kept : k ≡ isOpen (p .mode) && (ltb (p .age) t && leb (p .resends) r)) where
+      nonzero : isZero p ≡ false
+      nonzero = sym (w .tells (i - 1) (omega (arith, s .few))) ∙ ne-eqb (getD ws (i - 1) 0) 0 n
+
+      keeping : k ≡ keeps t r p
+      keeping = open-kept ∙ kept-as-open p t r nonzero
+
+      one-breaks : not k ≡ true → false ≡ allSound t r ps
       one-breaks m =
-          unsound
-          (by-test (allKeep t r ps from to)
-          (λ a.
-          let yes = keep-each t r ps from to a (i - 1) (omega arith) (omega (arith, s .least)) in
-          absurd (false≢true (sym (off keeping m) ∙ yes)))
-          (λ a. simp a))
+          by-test (allSound t r ps)
+          (λ a. absurd (false≢true (sym (off keeping m) ∙ sound-keeps t r ps a (i - 1) (omega (arith, s .few)))))
+          sym
 
       -- b is whether its serial stands in the row
-      module _ (m : not k ≡ false) (b : Bool) (told : (b ≡ standsIn row (placeAt ps (i - 1) .serial)) × (placeAt ps (i - 1) .serial < 65536)) where
-        is-open : isOpen (placeAt ps (i - 1) .mode) ≡ true
-        is-open = kept-open (placeAt ps (i - 1)) t r (on keeping m) (off zero n)
+      module _ (m : not k ≡ false) (b : Bool) (told : (b ≡ standsIn row (lowOf (ownerOf (i - 1))) (p .serial)) × (p .serial < 65536)) where
+        is-open : isOpen (p .mode) ≡ true
+        is-open = kept-open p t r (on keeping m) nonzero
 
-        double-is : b ≡ doubleAt ps to (i - 1)
+        double-is : b ≡ doubleAt ps (endOf (ownerOf (i - 1))) (i - 1)
         double-is =
             told .0
             ∙ sym (simp is-open)
-            ∙ double-by-row ps to row i (i - 1) (omega arith) long (told .1) (s .held)
+            ∙ double-by-row ps row i (i - 1) (lowOf (ownerOf (i - 1))) (omega arith) (omega (arith, s .few)) (omega arith) (omega arith) (told .1) (s .held)
 
-        pub one-double : b ≡ true → Surveyed t r ps from to (record { sound = false; row = row })
-        unfolding areSound
+        one-double : b ≡ true → false ≡ allSound t r ps
         one-double e =
-            let two : true ≡ twice ps from to = double-found ps to i from (i - 1) (omega arith) (omega (arith, s .least)) (sym double-is ∙ e) in
-            unsound (sym (and-false (allKeep t r ps from to)) ∙ ap (λ (d : Bool). allKeep t r ps from to && not d) two)
+            by-test (allSound t r ps)
+            (λ a. absurd (false≢true (sym (sound-single t r ps a (i - 1) (omega (arith, s .few))) ∙ sym double-is ∙ e)))
+            sym
 
         -- an open one
-        pub looked-open : b ≡ false → Looked t r ps from to (set row (i - 1) (placeAt ps (i - 1) .serial)) (i - 1)
+        pub looked-open : b ≡ false → Looked t r ps (set row (i - 1) (p .serial)) (i - 1)
         looked-open f =
-            let own : heldBy (placeAt ps (i - 1)) ≡ placeAt ps (i - 1) .serial = simp is-open in
+            let own : heldBy p ≡ p .serial = simp is-open in
             record {
-              least = omega (arith, s .least);
               few = omega (arith, s .few);
-              low = omega arith;
-              long = length-set row (i - 1) (placeAt ps (i - 1) .serial) ∙ s .long;
-              held = subst (λ (y : ℕ). Held (set row (i - 1) y) ps (i - 1) to) own
-                  (held-more ps to row i (i - 1) (omega arith) (omega (arith, s .least)) (s .long) (s .held));
-              kept = more-kept (on keeping m);
-              none = more-single (sym double-is ∙ f);
-              small = more-small (λ o. told .1);
+              long = length-set row (i - 1) (p .serial) ∙ s .long;
+              held = subst (λ (y : ℕ). Held (set row (i - 1) y) ps (i - 1)) own (held-more ps row i (i - 1) (omega arith) (s .long) (s .held));
+              kept = one-more (λ j. keepsAt t r ps j ≡ true) i below (on keeping m) (s .kept);
+              single = one-more (λ j. doubleAt ps (endOf (ownerOf j)) j ≡ false) i below (sym double-is ∙ f) (s .single);
+              small = one-more (λ j. isOpen (placeAt ps j .mode) ≡ true → placeAt ps j .serial < 65536) i below (λ o. told .1) (s .small);
             }
 
-  -- after the last turn
-  pub all-looked : (row : List ℕ) (i : ℕ) → i ≤ from → Looked t r ps from to row i → Surveyed t r ps from to (record { sound = true; row = row })
-  unfolding areSound
-  all-looked row i out s =
-      let keep : allKeep t r ps from to ≡ true = each-keep t r ps from to (λ k l h. keep-each t r ps i to (s .kept) k (omega arith) h) in
-      record {
-        sound = sym (simp keep (ap not (sym (none-found ps to i from out (s .none)))));
-        held = λ e. held-from ps to row i from out (s .low) (s .held);
-        small = λ e k l h. s .small k (omega arith) h;
-      }
+        pub sought-double : (c x y : ℕ) → b ≡ true → Broken ≡ sought t r ps c x y
+        sought-double c x y e = when-broken t r ps c x y (sym (one-double e))
 
-pub ruleset looking = (looked-none, looked-free, one-breaks, one-double, looked-open, all-looked)
+        pub sweep-double : (y : Swept) → b ≡ true → y ≡ unswept ps → y ≡ swept t r ps
+        unfolding swept
+        sweep-double y e q = q ∙ simp (sym (one-double e))
+
+      pub sought-breaks : (c x y : ℕ) → not k ≡ true → Broken ≡ sought t r ps c x y
+      sought-breaks c x y m = when-broken t r ps c x y (sym (one-breaks m))
+
+      pub sweep-breaks : (y : Swept) → not k ≡ true → y ≡ unswept ps → y ≡ swept t r ps
+      unfolding swept
+      sweep-breaks y m q = q ∙ simp (sym (one-breaks m))
+
+  -- before the first turn where the places from a number on are free
+  pub looked-past : (ws : List ℕ) (n : ℕ) → Weighed ps ws → Past ws n → Looked t r ps (replicate 16 NONE) n
+  looked-past ws n w p = down (16 - n) n (omega (arith, p .few)) (p .none)
+    where
+      down : (m n : ℕ) → n + m ≡ 16 → ((k : ℕ) → n ≤ k → k < 16 → getD ws k 0 ≡ 0) → Looked t r ps (replicate 16 NONE) n
+      down zero n e free = let all : 16 ≡ n = omega arith in subst (Looked t r ps (replicate 16 NONE)) all looked-none
+      down (suc m) n e free =
+          let one : n + 1 - 1 ≡ n = omega arith in
+          let behind = down m (n + 1) (omega arith) (λ k l h. free k (omega arith) h) in
+          subst (Looked t r ps (replicate 16 NONE)) one
+          (looked-free (replicate 16 NONE) (n + 1) (omega arith) behind ws w (free (n + 1 - 1) (omega arith) (omega arith)))
+
+  -- after the last turn
+  module _ (row : List ℕ) (i : ℕ) (out : i ≤ 0) (s : Looked t r ps row i) where
+    pub looked-sound : allSound t r ps ≡ true
+    looked-sound = each-sound t r ps (λ k h. s .kept k (omega arith) h) (λ k h. s .single k (omega arith) h)
+
+    pub all-held : Held row ps 0
+    all-held = let end : i ≡ 0 = omega arith in subst (Held row ps) end (s .held)
+
+    pub all-small : (k : ℕ) → k < 16 → isOpen (placeAt ps k .mode) ≡ true → placeAt ps k .serial < 65536
+    all-small k h = s .small k (omega arith) h
+
+pub ruleset looking = (looked-past, looked-free, sought-breaks, sought-double, looked-open)
 
 -- the loop that looks for a place at which no serial stands: what is left decides as all does
-pub record Bare (row : List ℕ) (from to end i : ℕ) : Type 0 where
-  pub limit : end ≡ min to 16
-  pub same : freeIn row i to ≡ freeIn row from to
+pub record Bare (row : List ℕ) (from end i : ℕ) : Type 0 where
+  pub limit : end ≡ from + 8
+  pub low : from ≤ i
+  pub same : firstFit (bareAt row) i (end - i) ≡ freeIn row from
 
-module _ (row : List ℕ) (from to end : ℕ) where
-  pub bare-all : end ≡ min to 16 → Bare row from to end from
-  bare-all e = record { limit = e; same = refl }
+module _ (row : List ℕ) (from end : ℕ) where
+  pub bare-all : end ≡ from + 8 → Bare row from end from
+  unfolding freeIn
+  bare-all e = let all : end - from ≡ 8 = omega arith in record { limit = e; low = omega arith; same = ap (firstFit (bareAt row) from) all }
 
-  module _ (i : ℕ) (l : Bare row from to end i) where
-    at : i < end → bareAt row i ≡ eqb (getD row i 0) NONE
-    at h = ap (λ (b : Bool). b || eqb (getD row i 0) NONE) (lt-leb 16 i (omega (arith, l .limit)))
+  module _ (i : ℕ) (l : Bare row from end i) where
+    pub bare-here : i < end → getD row i 0 ≡ NONE → i ≡ freeIn row from
+    bare-here h e = sym (first-here (bareAt row) i end h (eq-eqb (getD row i 0) NONE e)) ∙ l .same
 
-    pub bare-here : i < end → getD row i 0 ≡ NONE → i ≡ freeIn row from to
-    unfolding freeIn
-    bare-here h e = sym (first-here (bareAt row) i to (omega (arith, l .limit)) (at h ∙ eq-eqb (getD row i 0) NONE e)) ∙ l .same
-
-    pub bare-on : i < end → (getD row i 0 ≡ NONE → ⊥) → Bare row from to end (i + 1)
-    unfolding freeIn
+    pub bare-on : i < end → (getD row i 0 ≡ NONE → ⊥) → Bare row from end (i + 1)
     bare-on h e =
-        record { limit = l .limit; same = sym (first-on (bareAt row) i to (omega (arith, l .limit)) (at h ∙ ne-eqb (getD row i 0) NONE e)) ∙ l .same }
+        record {
+          limit = l .limit;
+          low = omega (arith, l .low);
+          same = sym (first-on (bareAt row) i end h (ne-eqb (getD row i 0) NONE e)) ∙ l .same;
+        }
 
-    pub bare-end : end ≤ i → i ≡ freeIn row from to
-    unfolding freeIn
-    bare-end h =
-        by-test (ltb i to)
-        (λ t.
-        let below = ltb-true i to t in
-        let past : bareAt row i ≡ true = ap (λ (b : Bool). b || eqb (getD row i 0) NONE) (le-leb 16 i (omega (arith, l .limit))) in
-        sym (first-here (bareAt row) i to below past))
-        (λ f. sym (first-end (bareAt row) i to (ltb-false i to f)))
-        ∙ l .same
+    pub bare-end : end ≤ i → i ≡ freeIn row from
+    bare-end h = sym (first-end (bareAt row) i end h) ∙ l .same
 
 pub ruleset baring = (bare-all, bare-here, bare-on, bare-end)
 
--- what a beginning finds, by what the pass told
-module _ (t r : ℕ) (ps : List Place) (from to next : ℕ) (s : Seen) (seen : Surveyed t r ps from to s) where
-  pub opening-broken : not (s .sound) ≡ true → Broken ≡ opening t r ps from to next
-  opening-broken n = when-broken t r ps from to _ _ (sym (seen .sound) ∙ not-true (s .sound) n)
+-- what a beginning finds, after the last turn
+module _ (t r : ℕ) (ps : List Place) (row : List ℕ) (i : ℕ) (out : i ≤ 0) (s : Looked t r ps row i) (c next : ℕ) where
+  sound : allSound t r ps ≡ true
+  sound = looked-sound t r ps row i out s
 
-  module _ (n : not (s .sound) ≡ false) (long : length ps ≡ 16) (k : ℕ) (found : k ≡ freeIn (s .row) from to) where
-    sound : s .sound ≡ true
-    sound = not-false (s .sound) n
+  pub opening-outside : 2 ≤ c → Outside ≡ opening t r ps c next
+  opening-outside h = when-outside t r ps c _ _ sound h
 
-    lowest : k ≡ lowestFree ps from to
-    lowest = found ∙ free-in-row ps to (s .row) from long (seen .held sound) (seen .small sound)
+  module _ (inside : c < 2) (k : ℕ) (found : k ≡ freeIn row (c * 8)) where
+    lowest : k ≡ lowestFree ps (lowOf c) (endOf c)
+    lowest = found ∙ free-in-row ps row (c * 8) (omega arith) (all-held t r ps row i out s) (all-small t r ps row i out s)
 
-    pub opening-full : to ≤ k → Nothing ≡ opening t r ps from to next
-    opening-full h = when-nothing t r ps from to _ _ (sym (seen .sound) ∙ sound) (omega (arith, lowest, h))
+    pub opening-full : c * 8 + 8 ≤ k → Nothing ≡ opening t r ps c next
+    opening-full h = when-nothing t r ps c _ _ sound inside (omega (arith, lowest, h))
 
-    pub opening-inside : k < to → from ≤ to
-    unfolding lowestFree
-    opening-inside h = omega (arith, lowest, first-from (freeAt ps) from (to - from), h)
-
-    pub opening-at : (x : ℕ) → k < to → x ≡ serialIn (s .row) (to - from) next → At k x ≡ opening t r ps from to next
+    pub opening-at : (x : ℕ) → k < c * 8 + 8 → x ≡ serialIn row (c * 8) next → At k x ≡ opening t r ps c next
     unfolding serialIn
     opening-at x h e =
-        let is = e ∙ serial-in-row ps to (s .row) from next long (seen .held sound) in
-        (λ i. At (lowest i) (is i)) ∙ when-at t r ps from to _ _ (sym (seen .sound) ∙ sound) (omega (arith, lowest, h))
+        let is = e ∙ serial-in-row ps row (c * 8) (omega arith) (all-held t r ps row i out s) next in
+        (λ j. At (lowest j) (is j)) ∙ when-at t r ps c _ _ sound inside (omega (arith, lowest, h))
 
-pub ruleset opened = (opening-broken, opening-full, opening-inside, opening-at)
+pub ruleset opened = (opening-outside, opening-full, opening-at)
 
--- whether the serial so many after the next one stands in no place of the row
-abbrev unheld : List ℕ → ℕ → ℕ → Bool
-unheld row next j = not (standsIn row (upward next j))
+-- whether the serial so many after the next one stands in none of the eight
+abbrev unheld : List ℕ → ℕ → ℕ → ℕ → Bool
+unheld row from next j = not (standsIn row from (upward next j))
 
 -- so many serials were tried, and the first of the rest that does not stand in the row is the first of all
-pub record Tried (row : List ℕ) (next most serial tried : ℕ) : Type 0 where
+pub record Tried (row : List ℕ) (from next serial tried : ℕ) : Type 0 where
   pub here : serial ≡ upward next tried
-  pub same : firstFit (unheld row next) tried (most - tried) ≡ firstFit (unheld row next) 0 most
+  pub same : firstFit (unheld row from next) tried (8 - tried) ≡ firstFit (unheld row from next) 0 8
 
-module _ (row : List ℕ) (next most : ℕ) where
+module _ (row : List ℕ) (from next : ℕ) where
   -- the next one itself
-  pub serial-next : (b : Bool) → next < 65536 → b ≡ standsIn row next → not b ≡ true → next ≡ serialIn row most next
+  pub serial-next : (b : Bool) → next < 65536 → b ≡ standsIn row from next → not b ≡ true → next ≡ serialIn row from next
   unfolding serialIn firstFit
   serial-next b h told n =
-      let free : unheld row next 0 ≡ true = ap (λ (s : ℕ). not (standsIn row s)) (sym (upward-none next h)) ∙ ap not (sym told) ∙ n in
-      by-most most free
-    where
-      by-most : (most : ℕ) → unheld row next 0 ≡ true → next ≡ upward next (firstFit (unheld row next) 0 most)
-      by-most zero free = upward-none next h
-      by-most (suc k) free = simp free (upward-none next h)
+      let free : unheld row from next 0 ≡ true = ap (λ (s : ℕ). not (standsIn row from s)) (sym (upward-none next h)) ∙ ap not (sym told) ∙ n in
+      simp free (upward-none next h)
 
-  pub none-tried : next < 65536 → Tried row next most next 0
-  none-tried h = let all : most - 0 ≡ most = omega arith in record { here = upward-none next h; same = ap (firstFit (unheld row next) 0) all }
+  pub none-tried : next < 65536 → Tried row from next next 0
+  none-tried h = let all : 8 - 0 ≡ 8 = omega arith in record { here = upward-none next h; same = ap (firstFit (unheld row from next) 0) all }
 
-  module _ (serial tried : ℕ) (t : Tried row next most serial tried) where
-    found-at : firstFit (unheld row next) tried (most - tried) ≡ tried → serial ≡ serialIn row most next
+  module _ (serial tried : ℕ) (t : Tried row from next serial tried) where
+    found-at : firstFit (unheld row from next) tried (8 - tried) ≡ tried → serial ≡ serialIn row from next
     unfolding serialIn
     found-at e = t .here ∙ ap (upward next) (sym e ∙ t .same)
 
-    pub serial-last : most ≤ tried → serial ≡ serialIn row most next
-    serial-last h = found-at (first-end (unheld row next) tried most h)
+    pub serial-last : 8 ≤ tried → serial ≡ serialIn row from next
+    serial-last h = found-at (first-end (unheld row from next) tried 8 h)
 
-    module _ (b : Bool) (told : b ≡ standsIn row serial) (h : tried < most) where
-      told-at : unheld row next tried ≡ not b
-      told-at = ap (λ (s : ℕ). not (standsIn row s)) (sym (t .here)) ∙ ap not (sym told)
+    module _ (b : Bool) (told : b ≡ standsIn row from serial) (h : tried < 8) where
+      told-at : unheld row from next tried ≡ not b
+      told-at = ap (λ (s : ℕ). not (standsIn row from s)) (sym (t .here)) ∙ ap not (sym told)
 
-      pub serial-here : not b ≡ true → serial ≡ serialIn row most next
-      serial-here n = found-at (first-here (unheld row next) tried most h (told-at ∙ n))
+      pub serial-here : not b ≡ true → serial ≡ serialIn row from next
+      serial-here n = found-at (first-here (unheld row from next) tried 8 h (told-at ∙ n))
 
-      pub one-tried : (s : ℕ) → not b ≡ false → s ≡ upward serial 1 → Tried row next most s (tried + 1)
+      pub one-tried : (s : ℕ) → not b ≡ false → s ≡ upward serial 1 → Tried row from next s (tried + 1)
       one-tried s n e =
           record {
             here = e ∙ ap (λ (k : ℕ). upward k 1) (t .here) ∙ upward-more next tried;
-            same = sym (first-on (unheld row next) tried most h (told-at ∙ n)) ∙ t .same;
+            same = sym (first-on (unheld row from next) tried 8 h (told-at ∙ n)) ∙ t .same;
           }
 
 pub ruleset trying = (serial-next, none-tried, one-tried, serial-here, serial-last)

@@ -2,7 +2,7 @@
 -- Assumes nothing.
 use Prim.Native.Nat.{ℕ, _+_, _-_, _≤_, _<_}
 use native.Mathlib.Omega.{arith}
-use mathlib.Core.Bool.{Bool, true, false, not, _&&_, true≢false}
+use mathlib.Core.Bool.{Bool, true, false, not, _&&_, true≢false, and-eq-true-iff}
 use mathlib.Core.List.{List}
 use mathlib.Core.Logic.{_⊎_, inl, inr}
 use mathlib.Core.Path.{_≡_, refl, sym, ap, subst, subst⁻¹, _∙_}
@@ -11,11 +11,11 @@ use lib.Dec.{eqb}
 use lib.ListN.{length, set}
 use lib.Seq.{getD-set-same, getD-set-other}
 use Rattle.octets.specs.Searches.{anyFits}
-use Rattle.octets.proofs.Searches.{any-none, none-fits}
+use Rattle.octets.proofs.Searches.{any-none, none-fits, all-fit}
 use Rattle.place.specs.declared.Place.{Place}
 use Rattle.place.specs.Rules.{opened, free, isOpen, holds}
 use Rattle.place.proofs.Kept.{holds-is, open-holds}
-use Rattle.places.specs.Rows.{placeAt, holdsAt, keepsAt, isOpenAs, doubleAt, twice, allKeep}
+use Rattle.places.specs.Rows.{placeAt, holdsAt, keepsAt, isOpenAs, doubleAt, twice, allKeep, areSound, lowOf, endOf, ownerOf, allSound}
 
 -- every place keeps the rules for a place
 module _ (t r : ℕ) (ps : List Place) (from to : ℕ) where
@@ -114,3 +114,52 @@ module _ (ps : List Place) (from to at s : ℕ) (m : ℕ) where
       by-test : (b : Bool) → holdsAt (set ps at (opened s m)) x k ≡ b → b ≡ false
       by-test false q = refl
       by-test true q = absurd (clash (opened-holds h x j e) (opened-holds h x k q))
+
+-- the rules of each centre's places
+module _ (t r : ℕ) (ps : List Place) where
+  pub centre-sound : allSound t r ps ≡ true → (c : ℕ) → c < 2 → areSound t r ps (lowOf c) (endOf c) ≡ true
+  unfolding allSound
+  centre-sound a c h = all-fit (λ (d : ℕ). areSound t r ps (lowOf d) (endOf d)) 2 c a h
+
+  pub sound-keeps : allSound t r ps ≡ true → (k : ℕ) → k < 16 → keepsAt t r ps k ≡ true
+  unfolding areSound
+  sound-keeps a k h =
+      let c = ownerOf k in
+      let s = centre-sound a c (omega arith) in
+      keep-each t r ps (lowOf c) (endOf c) (and-eq-true-iff (allKeep t r ps (lowOf c) (endOf c)) (not (twice ps (lowOf c) (endOf c))) .0 s .0) k
+      (omega arith) (omega arith)
+
+  -- "one serial twice within one centre", not so
+  pub sound-once : allSound t r ps ≡ true → (c : ℕ) → c < 2 → twice ps (lowOf c) (endOf c) ≡ false
+  unfolding areSound
+  sound-once a c h =
+      not-true (twice ps (lowOf c) (endOf c))
+      (and-eq-true-iff (allKeep t r ps (lowOf c) (endOf c)) (not (twice ps (lowOf c) (endOf c))) .0 (centre-sound a c h) .1)
+
+  pub sound-single : allSound t r ps ≡ true → (k : ℕ) → k < 16 → doubleAt ps (endOf (ownerOf k)) k ≡ false
+  unfolding twice
+  sound-single a k h =
+      let c = ownerOf k in
+      any-none (doubleAt ps (endOf c)) (lowOf c) (endOf c - lowOf c) k (sound-once a c (omega arith)) (omega arith) (omega arith)
+
+  -- of both where no place breaks them
+  pub both-sound : ((c : ℕ) → c < 2 → (Keeping t r ps (lowOf c) (endOf c)) × (twice ps (lowOf c) (endOf c) ≡ false)) → allSound t r ps ≡ true
+  unfolding allSound areSound
+  both-sound each =
+      ap not
+      (none-fits (λ (c : ℕ). not (areSound t r ps (lowOf c) (endOf c))) 0 2
+      (λ c l h.
+      let k = each-keep t r ps (lowOf c) (endOf c) (each c h .0) in
+      simp (k, each c h .1)))
+
+  pub each-sound : ((k : ℕ) → k < 16 → keepsAt t r ps k ≡ true) → ((k : ℕ) → k < 16 → doubleAt ps (endOf (ownerOf k)) k ≡ false) → allSound t r ps ≡ true
+  unfolding twice
+  each-sound keep single =
+      both-sound
+      (λ c h. (
+        λ k l u. keep k (omega arith),
+        none-fits (doubleAt ps (endOf c)) (lowOf c) (endOf c - lowOf c)
+            (λ k l u.
+            let own : ownerOf k ≡ c = omega arith in
+            subst (λ (d : ℕ). doubleAt ps (endOf d) k ≡ false) own (single k (omega arith))),
+      ))

@@ -1,16 +1,15 @@
 -- The serials that are open, as a row of numbers that is searched at once: at each place the serial under which it is open.
 -- Assumes nothing.
-use Prim.Native.Nat.{ℕ, _-_, _≤_, _<_}
-use mathlib.Core.Bool.{Bool, true, not, _&&_, _||_, cond}
+use Prim.Native.Nat.{ℕ, _≤_, _<_}
+use mathlib.Core.Bool.{Bool, not, cond}
 use mathlib.Core.List.{List}
 use mathlib.Core.Path.{_≡_}
-use lib.Dec.{eqb, leb, ltb}
+use lib.Dec.{eqb, leb}
 use lib.ListN.{getD}
 use Rattle.octets.specs.Searches.{firstFit, anyFits}
 use Rattle.place.specs.declared.Place.{Place}
-use Rattle.place.specs.Rules.{isOpen}
-use Rattle.places.specs.declared.Seen.{Seen}
-use Rattle.places.specs.Rows.{placeAt, areSound, upward}
+use Rattle.place.specs.Rules.{isOpen, isZero}
+use Rattle.places.specs.Rows.{placeAt, upward}
 
 -- no serial: the number after the last
 abbrev pub NONE : ℕ
@@ -19,29 +18,33 @@ NONE = 65536
 abbrev pub heldBy : Place → ℕ
 heldBy p = cond (isOpen (p .mode)) (p .serial) NONE
 
--- a row that has what the places from one number up to another hold, and no serial elsewhere
-abbrev pub Held : List ℕ → List Place → ℕ → ℕ → Type 0
-Held row ps from to = (k : ℕ) → k < 16 → getD row k 0 ≡ cond (leb from k && ltb k to) (heldBy (placeAt ps k)) NONE
+-- a row that has what the places from one number on hold, and no serial before them
+abbrev pub Held : List ℕ → List Place → ℕ → Type 0
+Held row ps i = (k : ℕ) → k < 16 → getD row k 0 ≡ cond (leb i k) (heldBy (placeAt ps k)) NONE
 
 abbrev pub standsAt : List ℕ → ℕ → ℕ → Bool
 standsAt row s k = eqb (getD row k 0) s
 
-unfoldable pub standsIn : List ℕ → ℕ → Bool
-standsIn row s = anyFits (standsAt row s) 0 16
+-- whether a serial stands among the eight from one number on
+unfoldable pub standsIn : List ℕ → ℕ → ℕ → Bool
+standsIn row from s = anyFits (standsAt row s) from 8
 
--- the first serial from the next one upward that does not stand in the row, of so many and the one after them
+-- the first serial from the next one upward that does not stand among the eight, of eight and the one after them
 unfoldable pub serialIn : List ℕ → ℕ → ℕ → ℕ
-serialIn row most next = upward next (firstFit (λ j. not (standsIn row (upward next j))) 0 most)
+serialIn row from next = upward next (firstFit (λ j. not (standsIn row from (upward next j))) 0 8)
 
--- the lowest place of the row at which no serial stands; behind the row none does
+-- the lowest of the eight at which no serial stands
 abbrev pub bareAt : List ℕ → ℕ → Bool
-bareAt row k = leb 16 k || eqb (getD row k 0) NONE
+bareAt row k = eqb (getD row k 0) NONE
 
-unfoldable pub freeIn : List ℕ → ℕ → ℕ → ℕ
-freeIn row from to = firstFit (bareAt row) from (to - from)
+unfoldable pub freeIn : List ℕ → ℕ → ℕ
+freeIn row from = firstFit (bareAt row) from 8
 
--- what one pass over the places tells; where the rules are broken, only that they are
-pub record Surveyed (t r : ℕ) (ps : List Place) (from to : ℕ) (s : Seen) : Type 0 where
-  pub sound : s .sound ≡ areSound t r ps from to
-  pub held : s .sound ≡ true → Held (s .row) ps from to
-  pub small : s .sound ≡ true → (k : ℕ) → from ≤ k → k < to → isOpen (placeAt ps k .mode) ≡ true → placeAt ps k .serial < 65536
+-- a number for each place, which is 0 exactly where the place is all zero
+pub record Weighed (ps : List Place) (ws : List ℕ) : Type 0 where
+  pub tells : (k : ℕ) → k < 16 → eqb (getD ws k 0) 0 ≡ isZero (placeAt ps k)
+
+-- a number from which on the places are all free
+pub record Past (ws : List ℕ) (n : ℕ) : Type 0 where
+  pub few : n ≤ 16
+  pub none : (k : ℕ) → n ≤ k → k < 16 → getD ws k 0 ≡ 0

@@ -1,10 +1,11 @@
--- The searches over a row of places of any length, from one number up to another (document 01, "Open exchanges"; 001, 6.5).
+-- The searches over a row of places of any length, from one number up to another (document 01, "Open exchanges"; 001, 6.5), and the eight of each
+-- centre (document 02, Q-11).
 -- Assumes nothing.
-use Prim.Native.Nat.{ℕ, _+_, _-_, _%_}
-use mathlib.Core.Bool.{Bool, not, _&&_, cond}
+use Prim.Native.Nat.{ℕ, _+_, _*_, _-_, _/_, _%_}
+use mathlib.Core.Bool.{Bool, true, false, not, _&&_, cond}
 use mathlib.Core.List.{List, map}
 use lib.Dec.{ltb}
-use lib.ListN.{getD}
+use lib.ListN.{getD, replicate}
 use Rattle.octets.specs.Searches.{firstFit, anyFits, allFit}
 use Rattle.place.specs.declared.Place.{Place}
 use Rattle.place.specs.declared.Reply.{Reply}
@@ -12,7 +13,7 @@ use Rattle.place.specs.Rules.{free, isOpen, holds, keeps}
 use Rattle.place.specs.Steps.{NOTHING, ticked, fits}
 use Rattle.places.specs.declared.Report.{Report}
 use Rattle.places.specs.declared.Search.{Search}
-use Rattle.places.specs.declared.Search.the-variants.{Broken, Nothing, At}
+use Rattle.places.specs.declared.Search.the-variants.{Broken, Outside, Nothing, At}
 use Rattle.places.specs.declared.Swept.{Swept}
 
 -- the place at a number
@@ -72,17 +73,32 @@ serialFor ps from to next = upward next (firstFit (unopened ps from to next) 0 (
 unfoldable pub fitting : List Place → ℕ → ℕ → ℕ → Reply → ℕ
 fitting ps from to s w = firstFit (fitsAt ps s w) from (to - from)
 
--- "STATE, then FULL or STRAY": what is found among the places, where a search came to place k, and x is the serial beside it
-unfoldable pub sought : ℕ → ℕ → List Place → ℕ → ℕ → ℕ → ℕ → Search
-sought t r ps from to k x = cond (areSound t r ps from to) (cond (ltb k to) (At k x) Nothing) Broken
+-- "Places 0 to 7 are the first centre's, 8 to 15 the second's": where a centre's places begin and end, and whose a place is
+abbrev pub lowOf : ℕ → ℕ
+lowOf c = c * 8
+
+abbrev pub endOf : ℕ → ℕ
+endOf c = c * 8 + 8
+
+abbrev pub ownerOf : ℕ → ℕ
+ownerOf k = k / 8
+
+-- "STATE for one serial twice within one centre": the rules are those of each centre's places
+unfoldable pub allSound : ℕ → ℕ → List Place → Bool
+allSound t r ps = allFit (λ c. areSound t r ps (lowOf c) (endOf c)) 0 2
+
+-- "STATE, then FULL or STRAY", and "CENTRE, after STATE, for a centre other than the two": what is found among a centre's places, where a search came to
+-- place k, and x is the serial beside it
+unfoldable pub sought : ℕ → ℕ → List Place → ℕ → ℕ → ℕ → Search
+sought t r ps c k x = cond (allSound t r ps) (cond (ltb c 2) (cond (ltb k (endOf c)) (At k x) Nothing) Outside) Broken
 
 -- "takes the lowest free place and the first serial, from the next one upward .., that is not open": what a beginning finds
-abbrev pub opening : ℕ → ℕ → List Place → ℕ → ℕ → ℕ → Search
-opening t r ps from to next = sought t r ps from to (lowestFree ps from to) (serialFor ps from to next)
+abbrev pub opening : ℕ → ℕ → List Place → ℕ → ℕ → Search
+opening t r ps c next = sought t r ps c (lowestFree ps (lowOf c) (endOf c)) (serialFor ps (lowOf c) (endOf c) next)
 
 -- and what a reply finds
-abbrev pub reached : ℕ → ℕ → List Place → ℕ → ℕ → ℕ → Reply → Search
-reached t r ps from to s w = sought t r ps from to (fitting ps from to s w) s
+abbrev pub reached : ℕ → ℕ → List Place → ℕ → ℕ → Reply → Search
+reached t r ps c s w = sought t r ps c (fitting ps (lowOf c) (endOf c) s w) s
 
 -- what a tick makes of a place
 abbrev pub aged : ℕ → ℕ → Place → Place
@@ -96,6 +112,10 @@ report t r p = record { outcome = ticked t r p .outcome; serial = p .serial }
 abbrev pub nothing : Report
 nothing = record { outcome = NOTHING; serial = 0 }
 
--- "The tick answers all sixteen places."
+-- places that break the rules, as they came
+abbrev pub unswept : List Place → Swept
+unswept ps = record { sound = false; places = ps; reports = replicate 16 nothing }
+
+-- "The tick answers all sixteen places.", "a tick serves both"
 unfoldable pub swept : ℕ → ℕ → List Place → Swept
-swept t r ps = record { places = map (aged t r) ps; reports = map (report t r) ps }
+swept t r ps = cond (allSound t r ps) (record { sound = true; places = map (aged t r) ps; reports = map (report t r) ps }) (unswept ps)

@@ -1,51 +1,58 @@
-// The searches over the places from one number up to another, and the tick of all of them.
+// The searches over a centre's places, and the tick of all of them.
 ghost use mathlib.Core.Path.{_≡_};
-ghost use Prim.Native.Nat.{_<_, min};
+ghost use mathlib.Core.Bool.{_&&_};
+ghost use Prim.Native.Nat.{_+_, _≤_, _<_};
+ghost use lib.Dec.{ltb, leb};
+ghost use lib.ListN.{replicate};
 ghost use Rattle.octets.specs.Searches.{firstFit};
-ghost use Rattle.places.specs.Rows.{areSound, opening, reached, upward, swept};
-ghost use Rattle.places.specs.Held.{standsAt, standsIn, freeIn, serialIn, Surveyed};
+ghost use Rattle.place.specs.Rules.{isOpen};
+ghost use Rattle.places.specs.Rows.{lowOf, ownerOf, opening, reached, upward, nothing, unswept, swept};
+ghost use Rattle.places.specs.Held.{standsAt, standsIn, freeIn, serialIn, Weighed, Past};
 use place::NOTHING;
 use place::Place;
 use place::Reply;
 
+// The places of one centre: 0 to 7 are the first's, 8 to 15 the second's.
+const SHARE: usize = 8;
+
 // The number after the last serial, for a place that is not open.
 const NONE: u32 = 65536;
 
-// What a tick tells of one place.
+// The outcome of a report that tells nothing.
+pub const UNTOLD: u16 = NOTHING as u16;
+
+// What a tick tells of one place; no byte of it is padding.
 #[repr(C)]
 pub struct Report {
-    pub outcome: u8,
+    pub outcome: u16,
     pub serial: u16,
 }
 
-// What is found among the places: that they break the rules, nothing, or a place and a serial.
+// What is found among a centre's places: that the places break the rules, that there is no such centre, nothing, or a place and a serial.
 pub enum Search {
     Broken,
+    Outside,
     Nothing,
     At(usize, u16),
 }
 
-// What one pass tells: whether the places keep the rules, and where they do the serials that are open, each at its place.
-struct Seen {
-    sound: bool,
-    row: [u32; 16],
-}
-
-// What a tick makes of all places, and tells of them.
+// Whether the places keep the rules, and what a tick makes of them then and tells of them.
 pub struct Swept {
+    pub sound: bool,
     pub places: [Place; 16],
     pub reports: [Report; 16],
 }
 
-// Whether a serial stands in a row; no early way out, so that the compiler compares many at once.
-fn stands_in(row: &[u32; 16], serial: u16) -> bool
-    ensures { λ r. ⌜ r ≡ standsIn (now (row .entry)) serial ⌝ }
+// Whether a serial stands in the eight numbers of a row from one on; no early way out, so that the compiler compares many at once.
+fn stands_in(row: &[u32; 16], from: usize, serial: u16) -> bool
+    requires { ⌜ from ≤ 8 ⌝ }
+    ensures { λ r. ⌜ r ≡ standsIn (now (row .entry)) from serial ⌝ }
 {
     let sought = serial as u32;
     let mut hit = false;
     let mut i: usize = 0;
-    while i < 16 {
-        if row[i] == sought {
+    while i < SHARE {
+        if row[from + i] == sought {
             hit = true;
         }
         i = i + 1;
@@ -53,21 +60,67 @@ fn stands_in(row: &[u32; 16], serial: u16) -> bool
     hit
 }
 
-// Whether the serial of a place stands in a row.
-fn is_taken(row: &[u32; 16], p: Place) -> bool
-    ensures { λ r. ⌜ r ≡ standsIn (now (row .entry)) (p .serial) ⌝ }
-    ensures { λ r. ⌜ p .serial < 65536 ⌝ }
+// Whether the serial of a place stands among those of its centre.
+fn is_taken(row: &[u32; 16], k: usize, serial: u16) -> bool
+    requires { ⌜ k < 16 ⌝ }
+    ensures { λ r. ⌜ r ≡ standsIn (now (row .entry)) (lowOf (ownerOf k)) serial ⌝ }
+    ensures { λ r. ⌜ serial < 65536 ⌝ }
 {
-    stands_in(row, p.serial)
+    stands_in(row, k / SHARE * SHARE, serial)
 }
 
-// The first place of a row at which a serial stands, 16 where it stands at none.
-fn place_in(row: &[u32; 16], serial: u16) -> usize
-    ensures { λ r. ⌜ r ≡ firstFit (standsAt (now (row .entry)) serial) 0 16 ⌝ }
+// Whether an exchange of these numbers is open and keeps the state's rules; numbers and no place, which would be put together and taken apart again.
+fn is_kept(mode: u16, made: u16, age: u16, timeout: u8, resends: u8) -> bool
+    ensures { λ r. ⌜ r ≡ isOpen mode && (ltb age timeout && leb made resends) ⌝ }
 {
-    let wanted = serial as u32;
+    if !place::is_open(mode) {
+        return false;
+    }
+    if age < (timeout as u16) {
+        return made <= (resends as u16);
+    }
+    false
+}
+
+// Each place as one number, so that a pass tells the free ones by one test.
+fn weigh(places: [Place; 16]) -> [u64; 16]
+    ensures { λ r. ⌜ Weighed places r ⌝ }
+{
+    let mut weights: [u64; 16] = [0; 16];
     let mut i: usize = 0;
     while i < 16 {
+        let p = places[i];
+        weights[i] = p.weight();
+        i = i + 1;
+    }
+    weights
+}
+
+// Where a pass from the last place on begins: behind it, or before the first where all are free, by a loop with no early way out.
+fn begin(weights: &[u64; 16]) -> usize
+    ensures { λ r. ⌜ Past (now (weights .entry)) r ⌝ }
+{
+    let mut bits: u64 = 0;
+    let mut i: usize = 0;
+    while i < 16 {
+        bits = bits | weights[i];
+        i = i + 1;
+    }
+    if bits == 0 {
+        return 0;
+    }
+    16
+}
+
+// The first place of a centre at which a serial stands, the end of its eight where it stands at none.
+fn place_in(row: &[u32; 16], from: usize, serial: u16) -> usize
+    requires { ⌜ from ≤ 8 ⌝ }
+    ensures { λ r. ⌜ r ≡ firstFit (standsAt (now (row .entry)) serial) from 8 ⌝ }
+{
+    let wanted = serial as u32;
+    let end = from + SHARE;
+    let mut i = from;
+    while i < end {
         if row[i] == wanted {
             return i;
         }
@@ -76,22 +129,14 @@ fn place_in(row: &[u32; 16], serial: u16) -> usize
     i
 }
 
-fn lower(x: usize, y: usize) -> usize
-    ensures { λ r. ⌜ r ≡ min x y ⌝ }
+// The lowest place of a centre at which no serial stands, the end of its eight where there is none.
+fn free_in(row: &[u32; 16], from: usize) -> usize
+    requires { ⌜ from ≤ 8 ⌝ }
+    ensures { λ r. ⌜ r ≡ freeIn (now (row .entry)) from ⌝ }
 {
-    if x < y {
-        return x;
-    }
-    y
-}
-
-// The lowest place of a row at which no serial stands, `to` where there is none.
-fn free_in(row: &[u32; 16], from: usize, to: usize) -> usize
-    ensures { λ r. ⌜ r ≡ freeIn (now (row .entry)) from to ⌝ }
-{
-    let end = lower(to, 16);
+    let full = from + SHARE;
     let mut i = from;
-    while i < end {
+    while i < full {
         if row[i] == NONE {
             return i;
         }
@@ -110,17 +155,18 @@ pub fn after(serial: u16) -> u16
     serial + 1
 }
 
-// The first serial from the next one upward that does not stand in a row, of so many and the one after them.
-fn serial_in(row: &[u32; 16], most: usize, next: u16) -> u16
-    ensures { λ r. ⌜ r ≡ serialIn (now (row .entry)) most next ⌝ }
+// The first serial from the next one upward that does not stand among a centre's, of eight and the one after them.
+fn serial_in(row: &[u32; 16], from: usize, next: u16) -> u16
+    requires { ⌜ from ≤ 8 ⌝ }
+    ensures { λ r. ⌜ r ≡ serialIn (now (row .entry)) from next ⌝ }
 {
-    if !stands_in(row, next) {
+    if !stands_in(row, from, next) {
         return next;
     }
     let mut serial = next;
     let mut tried: usize = 0;
-    while tried < most {
-        if !stands_in(row, serial) {
+    while tried < SHARE {
+        if !stands_in(row, from, serial) {
             return serial;
         }
         serial = after(serial);
@@ -129,111 +175,179 @@ fn serial_in(row: &[u32; 16], most: usize, next: u16) -> u16
     serial
 }
 
-// One pass from the last place on, each tested by itself and against those behind it.
-fn survey(places: [Place; 16], from: usize, to: usize, timeout: u8, resends: u8) -> Seen
-    ensures { λ r. ⌜ Surveyed timeout resends places from to r ⌝ }
-{
-    let mut row = [NONE; 16];
-    let mut i = lower(to, 16);
-    while from < i {
-        let k = i - 1;
-        let p = places[k];
-        if !p.is_zero() {
-            if !p.keeps(timeout, resends) {
-                return Seen { sound: false, row };
-            }
-            if is_taken(&row, p) {
-                return Seen { sound: false, row };
-            }
-            row[k] = p.serial as u32;
-        }
-        i = k;
-    }
-    Seen { sound: true, row }
-}
-
-// Whether every place keeps the rules for a place, and no two are open with one serial.
-pub fn are_sound(places: [Place; 16], from: usize, to: usize, timeout: u8, resends: u8) -> bool
-    ensures { λ r. ⌜ r ≡ areSound timeout resends places from to ⌝ }
-{
-    let seen = survey(places, from, to, timeout, resends);
-    seen.sound
-}
-
-// The lowest free place and the first serial that is not open, in places that keep the rules.
+// A centre's lowest free place and the first serial that is not open within it, in places that keep the rules.
 pub fn find_opening(
     places: [Place; 16],
-    from: usize,
-    to: usize,
+    centre: usize,
     timeout: u8,
     resends: u8,
     next: u16,
 ) -> Search
-    ensures { λ r. ⌜ r ≡ opening timeout resends places from to next ⌝ }
+    ensures { λ r. ⌜ r ≡ opening timeout resends places centre next ⌝ }
 {
-    let seen = survey(places, from, to, timeout, resends);
-    if !seen.sound {
-        return Search::Broken;
+    let weights = weigh(places);
+    let mut row = [NONE; 16];
+    let mut i = begin(&weights);
+    while 0 < i {
+        let k = i - 1;
+        if weights[k] != 0 {
+            if !is_kept(
+                places[k].mode,
+                places[k].resends,
+                places[k].age,
+                timeout,
+                resends,
+            ) {
+                return Search::Broken;
+            }
+            if is_taken(&row, k, places[k].serial) {
+                return Search::Broken;
+            }
+            row[k] = places[k].serial as u32;
+        }
+        i = k;
     }
-    let row = seen.row;
-    let place = free_in(&row, from, to);
-    if to <= place {
+    if 2 <= centre {
+        return Search::Outside;
+    }
+    let from = centre * SHARE;
+    let place = free_in(&row, from);
+    if from + SHARE <= place {
         return Search::Nothing;
     }
-    Search::At(place, serial_in(&row, to - from, next))
+    Search::At(place, serial_in(&row, from, next))
 }
 
-// The place that a reply fits, in places that keep the rules, where no serial is open twice.
+// The place of a centre that a reply fits, in places that keep the rules, where no serial is open twice within a centre.
 pub fn find_fitting(
     places: [Place; 16],
-    from: usize,
-    to: usize,
+    centre: usize,
     timeout: u8,
     resends: u8,
     serial: u16,
     reply: Reply,
 ) -> Search
-    ensures { λ r. ⌜ r ≡ reached timeout resends places from to serial reply ⌝ }
+    ensures { λ r. ⌜ r ≡ reached timeout resends places centre serial reply ⌝ }
 {
-    let seen = survey(places, from, to, timeout, resends);
-    if !seen.sound {
-        return Search::Broken;
+    let weights = weigh(places);
+    let mut row = [NONE; 16];
+    let mut i = begin(&weights);
+    while 0 < i {
+        let k = i - 1;
+        if weights[k] != 0 {
+            if !is_kept(
+                places[k].mode,
+                places[k].resends,
+                places[k].age,
+                timeout,
+                resends,
+            ) {
+                return Search::Broken;
+            }
+            if is_taken(&row, k, places[k].serial) {
+                return Search::Broken;
+            }
+            row[k] = places[k].serial as u32;
+        }
+        i = k;
     }
-    let row = seen.row;
-    let at = place_in(&row, serial);
-    if 16 <= at {
+    if 2 <= centre {
+        return Search::Outside;
+    }
+    let from = centre * SHARE;
+    let at = place_in(&row, from, serial);
+    if from + SHARE <= at {
         return Search::Nothing;
     }
-    let p = places[at];
-    if !place::awaits(p.mode, reply) {
+    if !place::awaits(places[at].mode, reply) {
         return Search::Nothing;
     }
     Search::At(at, serial)
 }
 
-// A tick of every place.
+// A tick of every place, by the same pass: a place of zeros stays as it is, and nothing is told of it.
 pub fn tick_all(places: [Place; 16], timeout: u8, resends: u8) -> Swept
     ensures { λ r. ⌜ r ≡ swept timeout resends places ⌝ }
 {
+    let weights = weigh(places);
+    let mut row = [NONE; 16];
     let mut now = places;
-    let mut reports = [Report {
-        outcome: NOTHING,
-        serial: 0,
-    }; 16];
-    let mut i: usize = 0;
-    while i < 16 {
-        let p = places[i];
-        let step = p.ticked(timeout, resends);
-        let became = step.place;
-        now[i] = became;
-        reports[i] = Report {
-            outcome: step.outcome,
-            serial: p.serial,
-        };
-        i = i + 1;
+    let mut reports = silence();
+    let mut i: usize = 16;
+    while 0 < i {
+        let k = i - 1;
+        if weights[k] != 0 {
+            let made = places[k].resends;
+            if !is_kept(places[k].mode, made, places[k].age, timeout, resends) {
+                return unswept(places);
+            }
+            if is_taken(&row, k, places[k].serial) {
+                return unswept(places);
+            }
+            row[k] = places[k].serial as u32;
+            if is_young(places[k].age, timeout) {
+                now[k] = Place {
+                    serial: places[k].serial,
+                    mode: places[k].mode,
+                    resends: places[k].resends,
+                    age: older(places[k].age, timeout),
+                };
+                reports[k] = told(UNTOLD, places[k].serial);
+            } else {
+                let p = places[k];
+                let step = p.denied(resends);
+                let became = step.place;
+                now[k] = became;
+                reports[k] = told(step.outcome as u16, p.serial);
+            }
+        }
+        i = k;
     }
     Swept {
+        sound: true,
         places: now,
         reports,
+    }
+}
+
+// Whether a tick more does not bring an age to the timeout.
+fn is_young(age: u16, timeout: u8) -> bool
+    ensures { λ r. ⌜ r ≡ ltb (age + 1) timeout ⌝ }
+{
+    (age as u32) + 1 < (timeout as u32)
+}
+
+// One tick older, which does not bring an age to the timeout.
+fn older(age: u16, timeout: u8) -> u16
+    requires { ⌜ age + 1 < timeout ⌝ }
+    ensures { λ r. ⌜ r ≡ age + 1 ⌝ }
+{
+    age + 1
+}
+
+fn told(outcome: u16, serial: u16) -> Report
+    ensures { λ r. ⌜ r ≡ record { outcome = outcome; serial = serial } ⌝ }
+{
+    Report { outcome, serial }
+}
+
+// Nothing told of any place.
+fn silence() -> [Report; 16]
+    ensures { λ r. ⌜ r ≡ replicate 16 nothing ⌝ }
+{
+    [Report {
+        outcome: UNTOLD,
+        serial: 0,
+    }; 16]
+}
+
+// Places that break the rules, as they came.
+fn unswept(places: [Place; 16]) -> Swept
+    ensures { λ r. ⌜ r ≡ unswept places ⌝ }
+{
+    Swept {
+        sound: false,
+        places,
+        reports: silence(),
     }
 }

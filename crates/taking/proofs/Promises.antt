@@ -1,4 +1,4 @@
--- What the call that takes a packet promises: where the packet is a reply the table's own call under the packet's serial, and else the table as it
+-- What the call that takes a packet promises: where the packet is a reply the table's own call under the packet's source address and serial, and else the table as it
 -- came. Assumes nothing.
 use Prim.Native.Nat.{ℕ}
 use mathlib.Core.Bool.{Bool, true, false, not, _&&_, _||_, cond, true≢false, false≢true}
@@ -52,9 +52,9 @@ judged-good rs p g =
     a .0 ∙ b .0 ∙ c .0 ∙ unit-good rs (commandOf p) (unitOf p) (isBare (commandOf p)) (c .1)
 
 module _ (rs : List Row) (x : Exchanges) (p : List ℕ) where
-  as-role : (r : Role) → roleOf rs p ≡ r → taken rs x p ≡ takenAs r x (headerOf p .serial) (judgedPacket rs p)
+  as-role : (r : Role) → roleOf rs p ≡ r → taken rs x p ≡ takenAs r x (headerOf p .source) (headerOf p .serial) (judgedPacket rs p)
   unfolding taken
-  as-role r e = ap (λ (w : Role). takenAs w x (headerOf p .serial) (judgedPacket rs p)) e
+  as-role r e = ap (λ (w : Role). takenAs w x (headerOf p .source) (headerOf p .serial) (judgedPacket rs p)) e
 
   -- a packet judged good
   module _ (g : isGood (judgedPacket rs p) ≡ true) where
@@ -66,15 +66,15 @@ module _ (rs : List Row) (x : Exchanges) (p : List ℕ) where
     unfolding roleOf
     role = simp (parts .0, parts .1)
 
-    pub taken-confirm : commandOf p ≡ 3 → taken rs x p ≡ answered x (headerOf p .serial) Confirm
+    pub taken-confirm : commandOf p ≡ 3 → taken rs x p ≡ answered x (headerOf p .source) (headerOf p .serial) Confirm
     unfolding roleIn takenAs
     taken-confirm e = as-role (Is Confirm) (role ∙ ap (roleIn true) e)
 
-    pub taken-answer : commandOf p ≡ 5 → taken rs x p ≡ answered x (headerOf p .serial) Answer
+    pub taken-answer : commandOf p ≡ 5 → taken rs x p ≡ answered x (headerOf p .source) (headerOf p .serial) Answer
     unfolding roleIn takenAs
     taken-answer e = as-role (Is Answer) (role ∙ ap (roleIn true) e)
 
-    pub taken-deny : commandOf p ≡ 6 → taken rs x p ≡ answered x (headerOf p .serial) Deny
+    pub taken-deny : commandOf p ≡ 6 → taken rs x p ≡ answered x (headerOf p .source) (headerOf p .serial) Deny
     unfolding roleIn takenAs
     taken-deny e = as-role (Is Deny) (role ∙ ap (roleIn true) e)
 
@@ -91,7 +91,7 @@ module _ (rs : List Row) (x : Exchanges) (p : List ℕ) where
         none false false false i j k n = simp (i, j, k)
 
   -- a refused answer, where its frame is good, is a bad answer under the serial that stands in it
-  pub taken-bad-answer : lateRefused rs p ≡ true → commandOf p ≡ 5 → taken rs x p ≡ answered x (headerOf p .serial) BadAnswer
+  pub taken-bad-answer : lateRefused rs p ≡ true → commandOf p ≡ 5 → taken rs x p ≡ answered x (headerOf p .source) (headerOf p .serial) BadAnswer
   unfolding roleOf roleIn takenAs
   taken-bad-answer late e = as-role (Is BadAnswer) (by-tests (isGood (inOrder (frameTests 1024 p) good)) (isGood (judgedContent rs p)) late)
     where
@@ -120,20 +120,20 @@ module _ (rs : List Row) (x : Exchanges) (p : List ℕ) where
   unfolding taken takenAs
   taken-kept e = by-role (roleOf rs p) e
     where
-      by-role : (r : Role) → isGood (takenAs r x (headerOf p .serial) (judgedPacket rs p) .verdict) ≡ false
-          → takenAs r x (headerOf p .serial) (judgedPacket rs p) ≡ untold x (takenAs r x (headerOf p .serial) (judgedPacket rs p) .verdict)
-      by-role (Is w) e = reply-refused x (headerOf p .serial) w e
+      by-role : (r : Role) → isGood (takenAs r x (headerOf p .source) (headerOf p .serial) (judgedPacket rs p) .verdict) ≡ false
+          → takenAs r x (headerOf p .source) (headerOf p .serial) (judgedPacket rs p) ≡ untold x (takenAs r x (headerOf p .source) (headerOf p .serial) (judgedPacket rs p) .verdict)
+      by-role (Is w) e = reply-refused x (headerOf p .source) (headerOf p .serial) w e
       by-role Other e = refl
 
 -- the table is that after calls of its own, one or none, so that what holds over those holds here
-abbrev pub callsAs : Role → ℕ → List Call
-callsAs (Is w) s = reply s w ∷ []
-callsAs Other s = []
+abbrev pub callsAs : Role → List ℕ → ℕ → List Call
+callsAs (Is w) a s = reply a s w ∷ []
+callsAs Other a s = []
 
-pub taken-run : (rs : List Row) (x : Exchanges) (p : List ℕ) → taken rs x p .state ≡ run x (callsAs (roleOf rs p) (headerOf p .serial))
+pub taken-run : (rs : List Row) (x : Exchanges) (p : List ℕ) → taken rs x p .state ≡ run x (callsAs (roleOf rs p) (headerOf p .source) (headerOf p .serial))
 unfolding taken takenAs run after
 taken-run rs x p = by-role (roleOf rs p)
   where
-    by-role : (r : Role) → takenAs r x (headerOf p .serial) (judgedPacket rs p) .state ≡ run x (callsAs r (headerOf p .serial))
+    by-role : (r : Role) → takenAs r x (headerOf p .source) (headerOf p .serial) (judgedPacket rs p) .state ≡ run x (callsAs r (headerOf p .source) (headerOf p .serial))
     by-role (Is w) = refl
     by-role Other = refl

@@ -11,17 +11,19 @@ use Rattle.exchange.specs.Table.{untold, answered}
 use Rattle.frame.specs.Frame.{frameTests}
 use Rattle.kinds.specs.declared.Row.{Row}
 use Rattle.octets.specs.Numbers.{lowFirst}
+use Rattle.octets.specs.Parts.{oneByOne}
 use Rattle.octets.proofs.Flags.{on, off}
-use Rattle.packet.specs.Frames.{commandOf, judgedContent, judgedPacket}
+use Rattle.packet.specs.Frames.{commandOf, judgedContent}
 use Rattle.packet.specs.Headers.{headerOf}
 use Rattle.packet.proofs.Contents.{frame-decides, content-decides}
 use Rattle.place.specs.declared.Reply.{Reply}
 use Rattle.place.specs.declared.Reply.the-variants.{Confirm, Answer, Deny, BadAnswer}
 use Rattle.verdict.specs.declared.Verdict.{Verdict}
 use Rattle.verdict.specs.Orders.{inOrder, good, isGood}
+use Rattle.taking.specs.declared.Heard.{Heard}
 use Rattle.taking.specs.declared.Role.{Role}
 use Rattle.taking.specs.declared.Role.the-variants.{Other, Is}
-use Rattle.taking.specs.Takes.{roleIn, roleOf, takenAs, taken}
+use Rattle.taking.specs.Takes.{roleIn, roleOf, heardAs, takenAs, taken}
 
 -- what a command is, in a packet of a good frame
 module _ (c : ℕ) where
@@ -54,36 +56,41 @@ module _ (c : ℕ) where
 
 pub ruleset roles = (is-confirm, is-answer, is-deny, is-none, is-good, is-bad, is-refused)
 
--- f is the frame's verdict, g whether it is good, a what is handed back
-module _ (rs : List Row) (x : Exchanges) (p : List ℕ) (f : Verdict) (g : Bool) (framed : f ≡ inOrder (frameTests 1024 p) good) (told : g ≡ isGood f) (a : Replied) where
-  pub frame-refused : not g ≡ true → a ≡ untold x f → a ≡ taken rs x p
-  unfolding taken roleOf takenAs
-  frame-refused n e = e ∙ ap (untold x) (frame-decides rs p f g framed told n) ∙ simp (ap isGood (sym framed) ∙ off told n)
+-- f is the frame's verdict, g whether it is good
+module _ (rs : List Row) (p : List ℕ) (f : Verdict) (g : Bool) (framed : f ≡ inOrder (frameTests 1024 p) good) (told : g ≡ isGood f) where
+  pub frame-refused : not g ≡ true → _≡_ {A = Heard} (record { verdict = f; role = Other }) (heardAs rs p)
+  unfolding roleOf
+  frame-refused n =
+      let is : Other ≡ roleOf rs p = simp (ap isGood (sym framed) ∙ off told n) in
+      λ i. record { verdict = frame-decides rs p f g framed told n i; role = is i }
 
   -- v is the content's verdict, h whether it is good, k the command, and r what the packet is
-  module _ (n : not g ≡ false) (v : Verdict) (h : Bool) (k : ℕ) (r : Role)
-      (content : v ≡ judgedContent rs p) (judged : h ≡ isGood v) (command : k ≡ commandOf p) (role : r ≡ roleIn h k) where
-    is : r ≡ roleOf rs p
-    unfolding roleOf
-    is =
-        role
-        ∙ ap (λ (b : Bool). roleIn b k) (judged ∙ ap isGood content)
-        ∙ ap (roleIn (isGood (judgedContent rs p))) command
-        ∙ simp (ap isGood (sym framed) ∙ on told n)
+  pub frame-good : (v : Verdict) (h : Bool) (k : ℕ) (r : Role) → not g ≡ false → v ≡ judgedContent rs p → h ≡ isGood v → k ≡ commandOf p → r ≡ roleIn h k
+      → _≡_ {A = Heard} (record { verdict = v; role = r }) (heardAs rs p)
+  unfolding roleOf
+  frame-good v h k r n content judged command role =
+      let is : r ≡ roleOf rs p =
+      role
+      ∙ ap (λ (b : Bool). roleIn b k) (judged ∙ ap isGood content)
+      ∙ ap (roleIn (isGood (judgedContent rs p))) command
+      ∙ simp (ap isGood (sym framed) ∙ on told n) in
+      λ i. record { verdict = content-decides rs p f g framed told v n content i; role = is i }
 
-    so : takenAs r x (headerOf p .serial) (judgedPacket rs p) ≡ taken rs x p
-    unfolding taken
-    so = ap (λ (w : Role). takenAs w x (headerOf p .serial) (judgedPacket rs p)) is
+pub ruleset hearing = (frame-refused, frame-good)
 
-    pub reply-taken : (w : Reply) (s : ℕ) → r ≡ Is w → s ≡ lowFirst (take 2 (drop 2 p)) → a ≡ answered x s w → a ≡ taken rs x p
-    unfolding takenAs
-    reply-taken w s e q t =
-        t ∙ ap (λ (m : ℕ). answered x m w) q ∙ sym (ap (λ (u : Role). takenAs u x (headerOf p .serial) (judgedPacket rs p)) e) ∙ so
+-- h is what was heard, a what is handed back
+module _ (rs : List Row) (x : Exchanges) (p : List ℕ) (h : Heard) (told : h ≡ heardAs rs p) (a : Replied) where
+  so : takenAs (h .role) x (headerOf p .source) (headerOf p .serial) (h .verdict) ≡ taken rs x p
+  unfolding taken
+  so = ap (λ (y : Heard). takenAs (y .role) x (headerOf p .source) (headerOf p .serial) (y .verdict)) told
 
-    pub other-taken : r ≡ Other → a ≡ untold x v → a ≡ taken rs x p
-    unfolding takenAs
-    other-taken e t =
-        t ∙ ap (untold x) (content-decides rs p f g framed told v n content)
-        ∙ sym (ap (λ (u : Role). takenAs u x (headerOf p .serial) (judgedPacket rs p)) e) ∙ so
+  pub reply-taken : (w : Reply) (l : List ℕ) (s : ℕ) → h .role ≡ Is w → l ≡ oneByOne p 12 6 → s ≡ lowFirst (take 2 (drop 2 p)) → a ≡ answered x l s w → a ≡ taken rs x p
+  unfolding takenAs
+  reply-taken w l s e k q t =
+      t ∙ (λ i. answered x (k i) (q i) w) ∙ sym (ap (λ (u : Role). takenAs u x (headerOf p .source) (headerOf p .serial) (h .verdict)) e) ∙ so
 
-pub ruleset takes = (frame-refused, reply-taken, other-taken)
+  pub other-taken : h .role ≡ Other → a ≡ untold x (h .verdict) → a ≡ taken rs x p
+  unfolding takenAs
+  other-taken e t = t ∙ sym (ap (λ (u : Role). takenAs u x (headerOf p .source) (headerOf p .serial) (h .verdict)) e) ∙ so
+
+pub ruleset takes = (reply-taken, other-taken)

@@ -14,6 +14,7 @@ use Rattle.packet.specs.Headers.{headerOf}
 use Rattle.place.specs.declared.Reply.the-variants.{Confirm, Answer, Deny, BadAnswer}
 use Rattle.verdict.specs.declared.Verdict.{Verdict}
 use Rattle.verdict.specs.Orders.{inOrder, good, isGood}
+use Rattle.taking.specs.declared.Heard.{Heard}
 use Rattle.taking.specs.declared.Role.{Role}
 use Rattle.taking.specs.declared.Role.the-variants.{Other, Is}
 
@@ -26,11 +27,16 @@ roleIn false c = cond (eqb c 5) (Is BadAnswer) Other
 unfoldable pub roleOf : List Row → List ℕ → Role
 roleOf rs p = cond (isGood (inOrder (frameTests 1024 p) good)) (roleIn (isGood (judgedContent rs p)) (commandOf p)) Other
 
--- a reply is the table's own call under a serial; any other packet comes back as what the judge says of it
-unfoldable pub takenAs : Role → Exchanges → ℕ → Verdict → Replied
-takenAs (Is w) x s v = answered x s w
-takenAs Other x s v = untold x v
+-- a packet heard: what the judge says of it, and what it is
+abbrev pub heardAs : List Row → List ℕ → Heard
+heardAs rs p = record { verdict = judgedPacket rs p; role = roleOf rs p }
 
--- "A reply is given as its serial and one of confirm, answer, deny, bad answer": the serial as it stands in the bytes, of a refused answer too
+-- a reply is the table's own call under a source address and a serial; any other packet comes back as what the judge says of it
+unfoldable pub takenAs : Role → Exchanges → List ℕ → ℕ → Verdict → Replied
+takenAs (Is w) x a s v = answered x a s w
+takenAs Other x a s v = untold x v
+
+-- "A reply is given as its serial and one of confirm, answer, deny, bad answer", and with its source address (document 02, Q-11): both as they stand in
+-- the bytes, of a refused answer too
 unfoldable pub taken : List Row → Exchanges → List ℕ → Replied
-taken rs x p = takenAs (roleOf rs p) x (headerOf p .serial) (judgedPacket rs p)
+taken rs x p = takenAs (roleOf rs p) x (headerOf p .source) (headerOf p .serial) (judgedPacket rs p)

@@ -3,7 +3,8 @@ ghost use mathlib.Core.Path.{_≡_};
 ghost use mathlib.Core.Bool.{true};
 ghost use Rattle.kinds.specs.Table.{rows};
 ghost use Rattle.exchange.specs.Table.{untold};
-ghost use Rattle.taking.specs.Takes.{roleIn, taken};
+ghost use Rattle.taking.specs.Takes.{roleIn, heardAs, taken};
+use exchange::Address;
 use exchange::Exchanges;
 use exchange::Replied;
 use place::Reply;
@@ -15,19 +16,45 @@ pub enum Role {
     Is(Reply),
 }
 
-// The table after a received packet; frame and content are judged once each.
+// What the judge says of a packet, and what it is to the table.
+struct Heard {
+    verdict: Verdict,
+    role: Role,
+}
+
+// The table after a received packet; what is no reply has one way out, so that the table is copied once.
 pub fn take(table: Exchanges, p: &[u8]) -> Replied
     ensures { λ r. ⌜ r ≡ taken rows table (now (p .entry)) ⌝ }
 {
+    let heard = hear(p);
+    let role = heard.role;
+    match role {
+        Role::Is(reply) => {
+            let source = Address {
+                bytes: octets::six_at(p, 12),
+            };
+            table.reply(source, octets::two_at(p, 2), reply)
+        }
+        Role::Other => untold(table, heard.verdict),
+    }
+}
+
+// Frame and content are judged once each.
+fn hear(p: &[u8]) -> Heard
+    ensures { λ r. ⌜ r ≡ heardAs rows (now (p .entry)) ⌝ }
+{
     let frame = frame::judge_frame(p);
     if !frame.is_good() {
-        return untold(table, frame);
+        return Heard {
+            verdict: frame,
+            role: Role::Other,
+        };
     }
     let content = packet::judge_content(p);
     let role = role_in(content.is_good(), octets::byte_at(p, 26));
-    match role {
-        Role::Is(reply) => table.reply(octets::two_at(p, 2), reply),
-        Role::Other => untold(table, content),
+    Heard {
+        verdict: content,
+        role,
     }
 }
 
@@ -66,7 +93,7 @@ fn untold(table: Exchanges, verdict: Verdict) -> Replied
     Replied {
         verdict,
         place: 0,
-        outcome: place::NOTHING,
+        outcome: places::UNTOLD,
         state: table,
     }
 }

@@ -26,6 +26,7 @@ ghost use Rattle.trawnosz.specs.Calls.{servedTo, answerTo};
 ghost use Rattle.trawnosz.specs.Releases.{release};
 use devices::Judgement;
 use devices::PartKey;
+use exchange::Address;
 use exchange::Begun;
 use exchange::Draft;
 use exchange::Exchanges;
@@ -42,7 +43,7 @@ use verdict::Part;
 use verdict::Verdict;
 
 // The release's number, as the file RELEASE has it.
-const RELEASE: [u8; 3] = *b"1.2";
+const RELEASE: [u8; 3] = *b"1.3";
 
 // The answer of a receiver's call.
 #[repr(C)]
@@ -223,51 +224,61 @@ pub extern "C" fn trawnosz_write_text(out: &mut [u8], text: &[u8]) -> Verdict
 }
 
 #[no_mangle]
-pub extern "C" fn trawnosz_exchanges_fresh(timeout: u8, resends: u8) -> Made
-    ensures { λ r. ⌜ r ≡ exchanges.made timeout resends ⌝ }
+pub extern "C" fn trawnosz_exchanges_fresh(
+    timeout: u8,
+    resends: u8,
+    first: Address,
+    second: Address,
+) -> Made
+    ensures { λ r. ⌜ r ≡ exchanges.made timeout resends (first .bytes) (second .bytes) ⌝ }
 {
-    Exchanges::fresh(timeout, resends)
+    Exchanges::fresh(timeout, resends, first, second)
 }
 
 #[no_mangle]
 pub extern "C" fn trawnosz_begin_and_write(
     table: Exchanges,
+    centre: u8,
     out: &mut [u8],
     draft: Draft,
     length: usize,
 ) -> Begun
-    ensures { λ r. ⌜ r ≡ begun rows table (now (out .entry)) draft length ⌝ }
-    ensures { λ r. ⌜ now (out .exit) ≡ begunOutput rows table (now (out .entry)) draft length ⌝ }
+    ensures { λ r. ⌜ r ≡ begun rows table centre (now (out .entry)) draft length ⌝ }
+    ensures { λ r. ⌜ now (out .exit) ≡ begunOutput rows table centre (now (out .entry)) draft length ⌝ }
 {
-    table.begin_and_write(out, draft, length)
+    table.begin_and_write(centre, out, draft, length)
 }
 
 #[no_mangle]
-pub extern "C" fn trawnosz_reply_confirm(table: Exchanges, serial: u16) -> Replied
-    ensures { λ r. ⌜ r ≡ exchanges.answered table serial Confirm ⌝ }
+pub extern "C" fn trawnosz_reply_confirm(table: Exchanges, source: Address, serial: u16) -> Replied
+    ensures { λ r. ⌜ r ≡ exchanges.answered table (source .bytes) serial Confirm ⌝ }
 {
-    table.reply(serial, Reply::Confirm)
+    table.reply(source, serial, Reply::Confirm)
 }
 
 #[no_mangle]
-pub extern "C" fn trawnosz_reply_answer(table: Exchanges, serial: u16) -> Replied
-    ensures { λ r. ⌜ r ≡ exchanges.answered table serial Answer ⌝ }
+pub extern "C" fn trawnosz_reply_answer(table: Exchanges, source: Address, serial: u16) -> Replied
+    ensures { λ r. ⌜ r ≡ exchanges.answered table (source .bytes) serial Answer ⌝ }
 {
-    table.reply(serial, Reply::Answer)
+    table.reply(source, serial, Reply::Answer)
 }
 
 #[no_mangle]
-pub extern "C" fn trawnosz_reply_deny(table: Exchanges, serial: u16) -> Replied
-    ensures { λ r. ⌜ r ≡ exchanges.answered table serial Deny ⌝ }
+pub extern "C" fn trawnosz_reply_deny(table: Exchanges, source: Address, serial: u16) -> Replied
+    ensures { λ r. ⌜ r ≡ exchanges.answered table (source .bytes) serial Deny ⌝ }
 {
-    table.reply(serial, Reply::Deny)
+    table.reply(source, serial, Reply::Deny)
 }
 
 #[no_mangle]
-pub extern "C" fn trawnosz_reply_bad_answer(table: Exchanges, serial: u16) -> Replied
-    ensures { λ r. ⌜ r ≡ exchanges.answered table serial BadAnswer ⌝ }
+pub extern "C" fn trawnosz_reply_bad_answer(
+    table: Exchanges,
+    source: Address,
+    serial: u16,
+) -> Replied
+    ensures { λ r. ⌜ r ≡ exchanges.answered table (source .bytes) serial BadAnswer ⌝ }
 {
-    table.reply(serial, Reply::BadAnswer)
+    table.reply(source, serial, Reply::BadAnswer)
 }
 
 #[no_mangle]

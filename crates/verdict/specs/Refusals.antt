@@ -80,6 +80,10 @@ TAIL = 24
 abbrev pub UNLISTED : ℕ
 UNLISTED = 25
 
+-- document 02, Q-11: "30 CENTRE .. for a centre other than the two"
+abbrev pub CENTRE : ℕ
+CENTRE = 30
+
 -- a row of the table: a number and its name
 pub record Row : Type 0 where
   pub number : ℕ
@@ -94,7 +98,8 @@ refusals =
     row STATE "STATE" ∷ row ROOM "ROOM" ∷ row CUT "CUT" ∷ row START "START" ∷ row LENGTH "LENGTH" ∷ row END "END" ∷ row SUM "SUM"
     ∷ row VERSION "VERSION" ∷ row COMMAND "COMMAND" ∷ row TIME "TIME" ∷ row UNIT "UNIT" ∷ row TYPE "TYPE" ∷ row COUNT "COUNT"
     ∷ row SIZE "SIZE" ∷ row NUMBER "NUMBER" ∷ row KIND "KIND" ∷ row TEXT "TEXT" ∷ row SETTING "SETTING" ∷ row FULL "FULL"
-    ∷ row STRAY "STRAY" ∷ row MANY "MANY" ∷ row ORDER "ORDER" ∷ row ORPHAN "ORPHAN" ∷ row TAIL "TAIL" ∷ row UNLISTED "UNLISTED" ∷ []
+    ∷ row STRAY "STRAY" ∷ row MANY "MANY" ∷ row ORDER "ORDER" ∷ row ORPHAN "ORPHAN" ∷ row TAIL "TAIL" ∷ row UNLISTED "UNLISTED"
+    ∷ row CENTRE "CENTRE" ∷ []
 
 abbrev pub numbers : List ℕ
 numbers = map (λ (r : Row). r .number) refusals

@@ -68,6 +68,8 @@ pub const TAIL: u8 = 24;
 
 pub const UNLISTED: u8 = 25;
 
+pub const CENTRE: u8 = 30;
+
 impl Verdict {
     pub fn good() -> Verdict
         ensures { λ r. ⌜ r ≡ good ⌝ }
@@ -103,8 +105,8 @@ impl Part {
     }
 }
 
-// Every refusal number, in the order of document 01's table.
-pub fn all_numbers() -> [u8; 25]
+// Every refusal number, in the order of document 01's table, then document 02's.
+pub fn all_numbers() -> [u8; 26]
     ensures { λ r. ⌜ r ≡ numbers ⌝ }
 {
     [
@@ -133,5 +135,6 @@ pub fn all_numbers() -> [u8; 25]
         ORPHAN,
         TAIL,
         UNLISTED,
+        CENTRE,
     ]
 }

@@ -38,6 +38,7 @@ verdict-name-spec =
     unasked
     unasked
     unasked
+    unasked
     (λ c. search verdict-as)  -- OK
     (λ c. search verdict-as)  -- STATE
     (λ c. search verdict-as)  -- ROOM
@@ -64,4 +65,5 @@ verdict-name-spec =
     (λ c. search verdict-as)  -- ORPHAN
     (λ c. search verdict-as)  -- TAIL
     (λ c. search verdict-as)  -- UNLISTED
+    (λ c. search verdict-as)  -- CENTRE
     (λ c. no-verdict (c .before .before .args .number) _ (c .before .match .rest) (search needs)))

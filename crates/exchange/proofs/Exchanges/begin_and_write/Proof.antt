@@ -15,12 +15,6 @@ returns c = (search beginning, search beginning)
 returns-2 : tie.Need-returns-2
 returns-2 c = (search beginning, search beginning)
 
-add-t16 : tie.Need-add-t16
-add-t16 c = search beginning
-
-enter-requires : tie.Need-enter-requires
-enter-requires c κs = search beginning
-
 pub begin-and-write-spec : {M : Type 1} → statement M
 begin-and-write-spec =
     tie.close
@@ -30,14 +24,15 @@ begin-and-write-spec =
     unasked
     returns  -- !verdict.is_good()
     unasked
+    (λ c κs. search beginning)
     unasked
     unasked
     unasked
     unasked
     (λ c. search needs)
     returns-2  -- !written.is_good()
-    add-t16
+    (λ c. search beginning)
     unasked
-    enter-requires
+    (λ c κs. search beginning)
     (λ c. search needs)
     returns-3)

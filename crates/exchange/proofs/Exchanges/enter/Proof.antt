@@ -6,4 +6,14 @@ use Rattle.exchange.proofs.Exchanges.enter.Statement.{statement}
 use Rattle.exchange.proofs.Exchanges.enter.Tie as tie
 
 pub enter-spec : {M : Type 1} → statement M
-enter-spec = tie.close (tie.spec (λ c. search needs) (λ c. search needs) unasked (λ c. search enter-next))
+enter-spec =
+    tie.close
+    (tie.spec
+    (λ c. search needs)
+    (λ c. search needs)
+    (λ c. search needs)
+    (λ c. search needs)
+    unasked
+    (λ c. search needs)
+    (λ c. search needs)
+    (λ c. search enter-next))

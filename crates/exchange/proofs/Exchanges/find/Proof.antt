@@ -11,7 +11,10 @@ find-spec =
     (tie.spec
     unasked
     unasked
-    (λ c. search finding)  -- !in_range(self.timeout, self.resends)
+    (λ c. search finding)  -- !self.is_settled()
+    unasked
+    unasked
+    (λ c. search needs)
     unasked
     (λ c. search needs)
     unasked
@@ -20,5 +23,6 @@ find-spec =
     (λ c. search needs)
     unasked
     (λ c. search finding)  -- Search::Broken
+    (λ c. search finding)  -- Search::Outside
     (λ c. search finding)  -- Search::Nothing
     (λ c. search finding))

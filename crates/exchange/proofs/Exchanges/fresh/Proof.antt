@@ -11,6 +11,7 @@ fresh-spec =
     unasked
     unasked
     unasked
-    (λ c. search making depth 6)  -- !in_range(timeout, resends)
+    (λ c. search making depth 6)  -- !is_settled(timeout, resends, first, second)
+    unasked
     unasked
     (λ c. search making depth 6))

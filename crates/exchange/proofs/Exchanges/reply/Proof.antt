@@ -6,8 +6,8 @@ use Rattle.exchange.proofs.Exchanges.reply.Statement.{statement}
 use Rattle.exchange.proofs.Exchanges.reply.Tie as tie
 
 -- the stray reply stands before the rest, so that an edit that passes a place over is refused there
-returns-3 : tie.Need-returns-3
-returns-3 c = search replying
+returns-4 : tie.Need-returns-4
+returns-4 c = search replying
 
 pub reply-spec : {M : Type 1} → statement M
 reply-spec =
@@ -15,7 +15,10 @@ reply-spec =
     (tie.spec
     unasked
     unasked
-    (λ c. search replying)  -- !in_range(timeout, resends)
+    (λ c. search replying)  -- !self.is_settled()
+    unasked
+    unasked
+    (λ c. search needs)
     unasked
     (λ c. search needs)
     unasked
@@ -24,5 +27,6 @@ reply-spec =
     (λ c. search needs)
     (λ c κs. search replying)
     (λ c. search replying)  -- Search::Broken
-    returns-3  -- Search::Nothing
+    (λ c. search replying)  -- Search::Outside
+    returns-4  -- Search::Nothing
     (λ c. search replying))

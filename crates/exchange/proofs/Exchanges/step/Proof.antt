@@ -15,4 +15,5 @@ step-spec =
     (λ c. search needs)
     (λ c. search needs)
     unasked
+    (λ c. search needs)
     (λ c. search step-so))

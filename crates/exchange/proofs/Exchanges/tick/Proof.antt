@@ -10,7 +10,9 @@ tick-spec =
     (tie.spec
     unasked
     unasked
-    (λ c. search ticked depth 6)  -- !self.is_legal()
+    (λ c. search ticked depth 6)  -- !self.is_settled()
     unasked
+    unasked
+    (λ c. search ticked depth 6)  -- !all.sound
     unasked
     (λ c. search ticked depth 6))

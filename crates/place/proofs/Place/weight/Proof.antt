@@ -1,11 +1,11 @@
--- `place::is_zero` meets its contract: its numbers as one are zero where each is. Assumes nothing.
+-- `place::weight` meets its contract: its numbers as one are zero where each is. Assumes nothing.
 use borrow.Author.Needs.{needs}
 use Rattle.place.proofs.Answers.{as-one}
-use Rattle.place.proofs.Place.is_zero.Statement.{statement}
-use Rattle.place.proofs.Place.is_zero.Tie as tie
+use Rattle.place.proofs.Place.weight.Statement.{statement}
+use Rattle.place.proofs.Place.weight.Tie as tie
 
-pub is-zero-spec : {M : Type 1} → statement M
-is-zero-spec =
+pub weight-spec : {M : Type 1} → statement M
+weight-spec =
     tie.close
     (tie.spec
     (λ c. search needs)
@@ -18,4 +18,4 @@ is-zero-spec =
     (λ c. search needs)
     (λ c. search needs)
     (λ c. search needs)
-    (λ c. search as-one))
+    (λ c. (search as-one, search)))
