@@ -485,7 +485,7 @@ trawnosz_found trawnosz_release(uint8_t *out, size_t out_length);
  *   trawnosz_reply_bad_answer         752
  *   trawnosz_reply_confirm            752
  *   trawnosz_reply_deny               752
- *   trawnosz_take_packet              992
+ *   trawnosz_take_packet              800
  *   trawnosz_tick                     768
  *   trawnosz_unit_length                8
  *   trawnosz_write_object             234
