@@ -61,7 +61,7 @@ made t r a b =
     let v = inOrder ((settled t r a b or-else SETTING) ∷ []) good in
     record { verdict = v; state = cond (isGood v) (blank t r a b) (blank 0 0 (replicate 6 0) (replicate 6 0)) }
 
--- the lowest free place of a centre's eight, its end where none is free, and "the first serial not open within the centre, from its own next one"
+-- the lowest free place of a centre's eight, its end where none is free; "a serial is open only within its centre": the first from its own next one upward
 abbrev pub lowestOf : Exchanges → ℕ → ℕ
 lowestOf x c = lowestFree (x .places) (lowOf c) (endOf c)
 
@@ -96,11 +96,11 @@ entered x c k s m =
       resends = x .resends;
     }
 
--- "a reply fits only when its source address is that centre's": the place of the centre with address a that it fits, the centre's end where it fits none
+-- the place of a centre that a reply fits, its end where it fits none
 abbrev pub fittingOf : Exchanges → ℕ → ℕ → Reply → ℕ
 fittingOf x c s w = fitting (x .places) (lowOf c) (endOf c) s w
 
--- STRAY where neither centre has the address, and where the reply fits no open exchange of the one that has it
+-- "a reply fits only when its source address is that centre's": STRAY where neither has the address (c is 2), and where it fits no exchange of the one that has it
 abbrev pub replyTests : Exchanges → ℕ → ℕ → Reply → List Test
 replyTests x c s w = (legal x or-else STATE) ∷ (ltb c 2 or-else STRAY) ∷ (ltb (fittingOf x c s w) (endOf c) or-else STRAY) ∷ []
 
