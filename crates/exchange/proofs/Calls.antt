@@ -111,7 +111,8 @@ module _ (x : Exchanges) (o : Bool) (r : o ≡ settled (x .timeout) (x .resends)
       pub find-good : (v : Verdict) (k s : ℕ) → q ≡ At k s → v ≡ good → _≡_ {A = Found} (record { verdict = v; place = k; serial = s }) (found x c)
       find-good v k s p e =
           let is = is-at (x .timeout) (x .resends) (x .places) c _ _ k s (sym p ∙ told) in
-          (λ i. record { verdict = e i; place = is .3 i; serial = (is .4 ∙ ap (serialFor (x .places) (lowOf c) (endOf c)) (its (is .1))) i }) ∙ sym (found-good x c (legal-as n true (is .0)) (is .1) (is .2))
+          let own = is .4 ∙ ap (serialFor (x .places) (lowOf c) (endOf c)) (its (is .1)) in
+          (λ i. record { verdict = e i; place = is .3 i; serial = own i }) ∙ sym (found-good x c (legal-as n true (is .0)) (is .1) (is .2))
 
   -- a reply: y is what is handed back, f what the places told, c the centre that has its address
   module _ (a : List ℕ) (s : ℕ) (w : Reply) where

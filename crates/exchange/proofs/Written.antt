@@ -18,6 +18,7 @@ use Rattle.output.specs.Packets.{packetBytes}
 use Rattle.output.specs.Writing.{packetVerdict}
 use Rattle.output.proofs.Promises.{sent-there, sent-good, sent-opened, sent-unit, sent-beyond}
 use Rattle.output.proofs.Sent.{Fitting}
+use Rattle.packet.specs.declared.Header.{Header}
 use Rattle.packet.specs.declared.Opened.{Opened}
 use Rattle.packet.specs.Frames.{unitOf, judgedPacket}
 use Rattle.packet.specs.Headers.{openedPacket}
@@ -58,7 +59,14 @@ module _ (x : Exchanges) (a : Asked) (six : Addressed x (a .centre) (a .draft)) 
   s : ℕ
   s = found x (a .centre) .serial
 
-  fits : Fitting (headed x (a .centre) (a .draft) s)
+  -- the header that is written, and the packet
+  abbrev heads : Header
+  heads = headed x (a .centre) (a .draft) s
+
+  abbrev sent : List ℕ
+  sent = packetBytes heads (part (a .out) 27 (27 + a .size))
+
+  fits : Fitting heads
   unfolding s serialFor
   fits =
       record {
@@ -67,7 +75,7 @@ module _ (x : Exchanges) (a : Asked) (six : Addressed x (a .centre) (a .draft)) 
         destination = six .destination;
       }
 
-  writes : isGood (packetVerdict rows (a .out) (headed x (a .centre) (a .draft) s) (a .size)) ≡ true
+  writes : isGood (packetVerdict rows (a .out) heads (a .size)) ≡ true
   unfolding s
   writes = taken-so x a g .writes
 
@@ -78,17 +86,17 @@ module _ (x : Exchanges) (a : Asked) (six : Addressed x (a .centre) (a .draft)) 
   abbrev pub packet : List ℕ
   packet = take (begunBy x a .length) left
 
-  there : packet ≡ packetBytes (headed x (a .centre) (a .draft) s) (part (a .out) 27 (27 + a .size))
+  there : packet ≡ sent
   unfolding s
   there =
       (λ i. take (begun-length x a g i) (output-written rows x (a .centre) (a .out) (a .draft) (a .size) (good-verdict x a g) i))
       ∙ sent-there rows (a .out) (headed x (a .centre) (a .draft) (found x (a .centre) .serial)) (a .size) fits writes
 
   pub begun-judged : isGood (judgedPacket rows packet) ≡ true
-  begun-judged = ap (λ (p : List ℕ). isGood (judgedPacket rows p)) there ∙ sent-good rows (a .out) (headed x (a .centre) (a .draft) s) (a .size) fits writes
+  begun-judged = ap (λ (p : List ℕ). isGood (judgedPacket rows p)) there ∙ sent-good rows (a .out) heads (a .size) fits writes
 
-  opened : openedPacket rows packet ≡ record { verdict = judgedPacket rows (packetBytes (headed x (a .centre) (a .draft) s) (part (a .out) 27 (27 + a .size))); header = headed x (a .centre) (a .draft) s; length = a .size }
-  opened = ap (openedPacket rows) there ∙ sent-opened rows (a .out) (headed x (a .centre) (a .draft) s) (a .size) fits writes
+  opened : openedPacket rows packet ≡ record { verdict = judgedPacket rows sent; header = heads; length = a .size }
+  opened = ap (openedPacket rows) there ∙ sent-opened rows (a .out) heads (a .size) fits writes
 
   pub begun-header : openedPacket rows packet .header ≡ headed x (a .centre) (a .draft) (begunBy x a .serial)
   unfolding s
@@ -98,7 +106,7 @@ module _ (x : Exchanges) (a : Asked) (six : Addressed x (a .centre) (a .draft)) 
   begun-size = ap (λ (o : Opened). o .length) opened
 
   pub begun-unit : unitOf packet ≡ part (a .out) 27 (27 + a .size)
-  begun-unit = ap unitOf there ∙ sent-unit rows (a .out) (headed x (a .centre) (a .draft) s) (a .size) fits writes
+  begun-unit = ap unitOf there ∙ sent-unit rows (a .out) heads (a .size) fits writes
 
   pub begun-beyond : drop (begunBy x a .length) left ≡ drop (begunBy x a .length) (a .out)
   unfolding s
