@@ -1,5 +1,6 @@
 -- The calls' answers, one law for each test that decides. Assumes nothing.
 use Prim.Native.Nat.{ℕ, _-_, _≤_, _<_}
+use native.Mathlib.Omega.{arith}
 use mathlib.Core.Bool.{Bool, true, false, and-eq-true-iff, false≢true}
 use mathlib.Core.List.{List, map}
 use mathlib.Core.Path.{_≡_, refl, sym, ap, subst⁻¹, _∙_}
@@ -12,6 +13,7 @@ use Rattle.verdict.specs.Orders.{good, refusal, isGood, inOrder}
 use Rattle.place.specs.declared.Reply.{Reply}
 use Rattle.exchange.specs.declared.Exchanges.{Exchanges}
 use Rattle.exchange.specs.declared.Found.{Found}
+use Rattle.exchange.specs.declared.Replied.{Replied}
 use Rattle.exchange.specs.declared.Ticked.{Ticked}
 use Rattle.places.specs.declared.Swept.{Swept}
 use Rattle.places.specs.Rows.{freeAt, lowestFree, lowOf, endOf, allSound, aged, report, swept}
@@ -109,6 +111,23 @@ module _ (x : Exchanges) where
         → answered x a s w ≡ stepped x (fittingOf x (centreOf x a) s w) w
     unfolding answered inOrder
     answered-good e o h = simp (e, lt-ltb (centreOf x a) 2 o, lt-ltb (fittingOf x (centreOf x a) s w) (endOf (centreOf x a)) h)
+
+    -- what holds of a reply by any of its ways out
+    pub answered-ways : (P : Replied → Type 0) → P (untold x (refusal STATE 0)) → P (untold x (refusal STRAY 0)) → ((k : ℕ) → k < 16 → P (stepped x k w))
+        → P (answered x a s w)
+    answered-ways P broken stray step = by-test (legal x) refl (ltb c 2) refl (ltb (fittingOf x c s w) (endOf c)) refl
+      where
+        c : ℕ
+        c = centreOf x a
+
+        by-test : (l : Bool) → legal x ≡ l → (o : Bool) → ltb c 2 ≡ o → (f : Bool) → ltb (fittingOf x c s w) (endOf c) ≡ f → P (answered x a s w)
+        by-test false e o p f q = subst⁻¹ P (answered-state e) broken
+        by-test true e false p f q = subst⁻¹ P (answered-outside e (ltb-false c 2 p)) stray
+        by-test true e true p false q = subst⁻¹ P (answered-stray e (ltb-true c 2 p) (ltb-false (fittingOf x c s w) (endOf c) q)) stray
+        by-test true e true p true q =
+            let o = ltb-true c 2 p in
+            let h = ltb-true (fittingOf x c s w) (endOf c) q in
+            subst⁻¹ P (answered-good e o h) (step (fittingOf x c s w) (omega (arith, o, h)))
 
   -- the tick
   pub ticking-state : legal x ≡ false → ticking x ≡ unticked x (refusal STATE 0)

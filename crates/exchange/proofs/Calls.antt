@@ -1,14 +1,14 @@
 -- What each way out of a call hands back, from what its own calls told on the way there. Assumes nothing.
 use Prim.Native.Nat.{ℕ, _+_, _≤_, _<_}
 use native.Mathlib.Omega.{arith}
-use mathlib.Core.Bool.{Bool, true, false, not, cond, _&&_, and-false}
+use mathlib.Core.Bool.{Bool, true, false, not, cond, _&&_, and-false, false≢true}
 use mathlib.Core.List.{List, [], _∷_, map}
 use mathlib.Core.Path.{_≡_, refl, sym, ap, subst⁻¹, _∙_}
 use mir.Syntax.{w64}
 use mir.Val.{Fits}
-use borrow.Author.Tests.{le-leb, lt-leb}
+use borrow.Author.Tests.{le-leb, lt-leb, ne-eqb}
 use lib.Dec.{leb}
-use lib.ListN.{set, replicate}
+use lib.ListN.{length, getD, set, replicate, length-map}
 use Rattle.octets.specs.Searches.{firstFit, same}
 use Rattle.octets.proofs.Flags.{on, off}
 use Rattle.kinds.specs.Table.{rows}
@@ -29,17 +29,19 @@ use Rattle.places.specs.declared.Swept.{Swept}
 use Rattle.places.specs.Rows.{placeAt, serialFor, lowOf, endOf, allSound, opening, reached, upward, aged, report, nothing, unswept, swept}
 use Rattle.places.proofs.Sought.{is-broken, is-outside, is-nothing, is-at}
 use Rattle.exchange.specs.declared.Address.{Address}
+use Rattle.exchange.specs.declared.Centre.{Centre}
 use Rattle.exchange.specs.declared.Exchanges.{Exchanges}
 use Rattle.exchange.specs.declared.Draft.{Draft}
 use Rattle.exchange.specs.declared.Made.{Made}
 use Rattle.exchange.specs.declared.Found.{Found}
 use Rattle.exchange.specs.declared.Begun.{Begun}
+use Rattle.exchange.specs.declared.Reached.{Reached}
 use Rattle.exchange.specs.declared.Replied.{Replied}
 use Rattle.exchange.specs.declared.Ticked.{Ticked}
 use Rattle.exchange.specs.Begins.{headedBy, modeOf, begunVerdict, unbegun, begun, begunOutput}
-use Rattle.exchange.specs.Table.{centreAt, addressAt, nextAt, centreOf, settled, legal, blank, made, unfound, found, entered, placed, fittingOf, stepped, untold, answered, unticked, ticking}
+use Rattle.exchange.specs.Table.{centreAt, addressAt, nextAt, centreOf, settled, legal, blank, made, unfound, found, entered, placed, fittingOf, stepped, untold, steppedBy, answered, reachOf, unreached, unticked, ticking}
 use Rattle.exchange.proofs.Answers.{made-refused, made-good, found-state, found-outside, found-full, found-good, Inside, found-inside}
-use Rattle.exchange.proofs.Answers.{answered-state, answered-outside, answered-stray, answered-good, ticking-state, ticking-by, after-tick}
+use Rattle.exchange.proofs.Answers.{answered-state, answered-outside, answered-stray, answered-good, answered-ways, ticking-state, ticking-by, after-tick}
 use Rattle.exchange.proofs.Begins.{draft-judged, find-decides, draft-decides, taken-by, begun-refused, output-kept, opening-at, begun-good, output-written, begun-few}
 
 -- settings and addresses, of which a state that keeps the rules keeps its own
@@ -114,39 +116,34 @@ module _ (x : Exchanges) (o : Bool) (r : o ≡ settled (x .timeout) (x .resends)
           let own = is .4 ∙ ap (serialFor (x .places) (lowOf c) (endOf c)) (its (is .1)) in
           (λ i. record { verdict = e i; place = is .3 i; serial = own i }) ∙ sym (found-good x c (legal-as n true (is .0)) (is .1) (is .2))
 
-  -- a reply: y is what is handed back, f what the places told, c the centre that has its address
+  -- a reply before its step: y is what is handed back, f what the places told, c the centre that has its address
   module _ (a : List ℕ) (s : ℕ) (w : Reply) where
-    pub reply-unset : (y : Replied) → not o ≡ true → y ≡ untold x (refusal STATE 0) → y ≡ answered x a s w
-    reply-unset y n e = e ∙ sym (answered-state x a s w (unsettled n))
+    pub reach-unset : (y : Reached) → not o ≡ true → y ≡ unreached STATE → y ≡ reachOf (answered x a s w)
+    reach-unset y n e = e ∙ sym (ap reachOf (answered-state x a s w (unsettled n)))
 
     module _ (n : not o ≡ false) (f : Search) (c : ℕ) (its : c ≡ centreOf x a) (told : f ≡ reached (x .timeout) (x .resends) (x .places) c s w) where
       own : f ≡ reached (x .timeout) (x .resends) (x .places) (centreOf x a) s w
       own = told ∙ ap (λ (d : ℕ). reached (x .timeout) (x .resends) (x .places) d s w) its
 
-      pub reply-broken : (y : Replied) → f ≡ Broken → y ≡ untold x (refusal STATE 0) → y ≡ answered x a s w
-      reply-broken y q e =
-          e ∙ sym (answered-state x a s w (legal-as n false (is-broken (x .timeout) (x .resends) (x .places) (centreOf x a) _ _ (sym q ∙ own))))
+      pub reach-broken : (y : Reached) → f ≡ Broken → y ≡ unreached STATE → y ≡ reachOf (answered x a s w)
+      reach-broken y q e =
+          e
+          ∙ sym (ap reachOf (answered-state x a s w (legal-as n false (is-broken (x .timeout) (x .resends) (x .places) (centreOf x a) _ _ (sym q ∙ own)))))
 
-      pub reply-outside : (y : Replied) → f ≡ Outside → y ≡ untold x (refusal STRAY 0) → y ≡ answered x a s w
-      reply-outside y q e =
+      pub reach-outside : (y : Reached) → f ≡ Outside → y ≡ unreached STRAY → y ≡ reachOf (answered x a s w)
+      reach-outside y q e =
           let is = is-outside (x .timeout) (x .resends) (x .places) (centreOf x a) _ _ (sym q ∙ own) in
-          e ∙ sym (answered-outside x a s w (legal-as n true (is .0)) (is .1))
+          e ∙ sym (ap reachOf (answered-outside x a s w (legal-as n true (is .0)) (is .1)))
 
-      pub reply-stray : (y : Replied) → f ≡ Nothing → y ≡ untold x (refusal STRAY 0) → y ≡ answered x a s w
-      reply-stray y q e =
+      pub reach-stray : (y : Reached) → f ≡ Nothing → y ≡ unreached STRAY → y ≡ reachOf (answered x a s w)
+      reach-stray y q e =
           let is = is-nothing (x .timeout) (x .resends) (x .places) (centreOf x a) _ _ (sym q ∙ own) in
-          e ∙ sym (answered-stray x a s w (legal-as n true (is .0)) (is .1) (is .2))
+          e ∙ sym (ap reachOf (answered-stray x a s w (legal-as n true (is .0)) (is .1) (is .2)))
 
-      module _ (k z : ℕ) (q : f ≡ At k z) where
-        at : (allSound (x .timeout) (x .resends) (x .places) ≡ true) × (centreOf x a < 2) × (fittingOf x (centreOf x a) s w < endOf (centreOf x a))
-            × (k ≡ fittingOf x (centreOf x a) s w) × (z ≡ s)
-        at = is-at (x .timeout) (x .resends) (x .places) (centreOf x a) _ _ k z (sym q ∙ own)
-
-        pub reply-inside : k < 16
-        reply-inside = omega (arith, at .1, at .2, at .3)
-
-        pub reply-good : (y : Replied) → y ≡ stepped x k w → y ≡ answered x a s w
-        reply-good y e = e ∙ ap (λ (j : ℕ). stepped x j w) (at .3) ∙ sym (answered-good x a s w (legal-as n true (at .0)) (at .1) (at .2))
+      pub reach-good : (k z : ℕ) → f ≡ At k z → _≡_ {A = Reached} (record { number = 0; place = k }) (reachOf (answered x a s w))
+      reach-good k z q =
+          let at = is-at (x .timeout) (x .resends) (x .places) (centreOf x a) _ _ k z (sym q ∙ own) in
+          ap (λ (j : ℕ). record { number = 0; place = j }) (at .3) ∙ sym (ap reachOf (answered-good x a s w (legal-as n true (at .0)) (at .1) (at .2)))
 
   -- the tick: y is what is handed back where it is refused, all what the places told
   pub tick-unset : (y : Ticked) → not o ≡ true → y ≡ unticked x (refusal STATE 0) → y ≡ ticking x
@@ -172,27 +169,75 @@ module _ (x : Exchanges) (o : Bool) (r : o ≡ settled (x .timeout) (x .resends)
     pub tick-broken : (y : Ticked) → not (all .sound) ≡ true → y ≡ unticked x (refusal STATE 0) → y ≡ ticking x
     tick-broken y m e = e ∙ sym (ticking-state x (legal-as n false (off sound-is m)))
 
-    pub tick-good : (v : Verdict) → not (all .sound) ≡ false → v ≡ good
-        → _≡_ {A = Ticked} (record { verdict = v; reports = all .reports; state = placed x (all .places) }) (ticking x)
-    tick-good v m e =
-        ap (λ (u : Verdict). record { verdict = u; reports = all .reports; state = placed x (all .places) }) e
+    pub tick-good : (v : Verdict) (y : Exchanges) → not (all .sound) ≡ false → v ≡ good → y ≡ placed x (all .places)
+        → _≡_ {A = Ticked} (record { verdict = v; reports = all .reports; state = y }) (ticking x)
+    tick-good v y m e q =
+        (λ i. record { verdict = e i; reports = all .reports; state = q i })
         ∙ ap (after-tick x) told
         ∙ sym (ticking-by x (legal-as n true (on sound-is m)))
 
 pub ruleset finding = (find-unset, find-broken, find-outside, find-full, find-good)
 
-pub ruleset replying = (reply-unset, reply-broken, reply-outside, reply-stray, reply-inside, reply-good)
+pub ruleset reaching = (reach-unset, reach-broken, reach-outside, reach-stray, reach-good)
+
+-- a reply by what was told before its step, under the name v that its kind was asked by
+module _ (x : Exchanges) (a : List ℕ) (s : ℕ) (v : Reply) (m : Reached) (e : m ≡ reachOf (answered x a s v)) where
+  pub reply-inside : m .place < 16
+  reply-inside =
+      subst⁻¹ (λ (y : Reached). y .place < 16) e
+      (answered-ways x a s v (λ y. y .place < 16) (omega arith) (omega arith) (λ k h. h))
+
+  pub reply-by : (w : Reply) (y : Replied) → w ≡ v → y ≡ steppedBy x (m .number) (m .place) v → y ≡ answered x a s w
+  reply-by w y is q =
+      q
+      ∙ ap (λ (n : Reached). steppedBy x (n .number) (n .place) v) e
+      ∙ answered-ways x a s v (λ z. steppedBy x (z .verdict .number) (z .place) v ≡ z) refl refl (λ k h. refl)
+      ∙ ap (answered x a s) (sym is)
+
+pub ruleset replying = (reply-inside, reply-by)
 
 pub ruleset ticked = (tick-unset, tick-broken, tick-good)
 
--- the step of a place
-pub step-so : (x : Exchanges) (k : ℕ) (w : Reply) (v : Verdict) (step : Step) → v ≡ good → step ≡ replied (x .resends) w (placeAt (x .places) k)
-    → _≡_ {A = Replied} (record { verdict = v; place = k; outcome = step .outcome; state = placed x (set (x .places) k (step .place)) }) (stepped x k w)
-step-so x k w v step e d = λ i. record { verdict = e i; place = k; outcome = d i .outcome; state = placed x (set (x .places) k (d i .place)) }
+-- a row is as long as what is made of each of its members
+pub as-long : (A B : Type 0) (f : A → B) (l : List A) (n : ℕ) → length (map f l) ≡ n → length l ≡ n
+as-long A B f l n e = sym (length-map l f) ∙ e
 
-pub no-reply : (x : Exchanges) (v : Verdict) (n : ℕ) → v ≡ refusal n 0
-    → _≡_ {A = Replied} (record { verdict = v; place = 0; outcome = NOTHING; state = x }) (untold x (refusal n 0))
-no-reply x v n e = ap (λ (u : Verdict). record { verdict = u; place = 0; outcome = NOTHING; state = x }) e
+-- the table with other places: its two centres are all that it has
+pub with-so : (x : Exchanges) (ps : List Place) (d : Centre) → length (x .centres) ≡ 2
+    → _≡_ {A = Exchanges}
+    (record { places = ps; centres = getD (x .centres) 0 d ∷ getD (x .centres) 1 d ∷ []; timeout = x .timeout; resends = x .resends })
+    (placed x ps)
+with-so x ps d long =
+    ap (λ (l : List Centre). record { places = ps; centres = l; timeout = x .timeout; resends = x .resends }) (two-again (x .centres) long)
+  where
+    two-again : (l : List Centre) → length l ≡ 2 → getD l 0 d ∷ getD l 1 d ∷ [] ≡ l
+    two-again [] h = absurd (omega arith)
+    two-again (a ∷ []) h = absurd (omega arith)
+    two-again (a ∷ b ∷ []) h = refl
+    two-again (a ∷ b ∷ c ∷ l) h = absurd (omega arith)
+
+-- the step of a place, or none: n is the number of the refusal
+module _ (x : Exchanges) (n k : ℕ) (w : Reply) (v : Verdict) (so : v ≡ refusal n 0) (y : Exchanges) (ps : List Place) (to : y ≡ placed x ps) (p o : ℕ) where
+  by-good : (b : Bool) → isGood (refusal n 0) ≡ b → steppedBy x n k w ≡ cond b (stepped x k w) (untold x (refusal n 0))
+  by-good b e = ap (λ (g : Bool). cond g (stepped x k w) (untold x (refusal n 0))) e
+
+  pub step-made : (step : Step) → n ≡ 0 → step ≡ replied (x .resends) w (placeAt (x .places) k) → ps ≡ set (x .places) k (step .place) → p ≡ k
+      → o ≡ step .outcome → _≡_ {A = Replied} (record { verdict = v; place = p; outcome = o; state = y }) (steppedBy x n k w)
+  step-made step e d q here told =
+      (λ i. record {
+        verdict = (so ∙ ap (λ (m : ℕ). refusal m 0) e) i;
+        place = here i;
+        outcome = (told ∙ ap (λ (z : Step). z .outcome) d) i;
+        state = (to ∙ ap (placed x) (q ∙ ap (λ (z : Step). set (x .places) k (z .place)) d)) i;
+      })
+      ∙ sym (by-good true (ap (λ (m : ℕ). isGood (refusal m 0)) e))
+
+  pub step-none : (n ≡ 0 → ⊥) → ps ≡ x .places → p ≡ 0 → o ≡ NOTHING
+      → _≡_ {A = Replied} (record { verdict = v; place = p; outcome = o; state = y }) (steppedBy x n k w)
+  step-none e q here told =
+      (λ i. record { verdict = so i; place = here i; outcome = told i; state = (to ∙ ap (placed x) q) i }) ∙ sym (by-good false (ne-eqb n 0 e))
+
+pub ruleset stepping = (step-made, step-none)
 
 pub none-so : (v : Verdict) (n : ℕ) → v ≡ refusal n 0 → _≡_ {A = Found} (record { verdict = v; place = 0; serial = 0 }) (unfound n)
 none-so v n e = ap (λ (w : Verdict). record { verdict = w; place = 0; serial = 0 }) e
@@ -212,15 +257,19 @@ blank-so t r a b p f =
     record { places = replicate 16 q; centres = record { address = a; next = 0 } ∷ record { address = b; next = 0 } ∷ []; timeout = t; resends = r })
     f
 
-module _ (t m : ℕ) (a b : List ℕ) (o : Bool) (told : o ≡ settled t m a b) (v : Verdict) (x : Exchanges) where
-  pub fresh-refused : not o ≡ true → v ≡ refusal SETTING 0 → x ≡ blank 0 0 (replicate 6 0) (replicate 6 0)
+-- v is the verdict u that was told
+module _ (t m : ℕ) (a b : List ℕ) (o : Bool) (told : o ≡ settled t m a b) (u v : Verdict) (so : v ≡ u) (x : Exchanges) where
+  pub fresh-refused : o ≡ false → u ≡ refusal SETTING 0 → x ≡ blank 0 0 (replicate 6 0) (replicate 6 0)
       → _≡_ {A = Made} (record { verdict = v; state = x }) (made t m a b)
-  fresh-refused n e q = (λ i. record { verdict = e i; state = q i }) ∙ sym (made-refused t m a b (off told n))
+  fresh-refused n e q = (λ i. record { verdict = (so ∙ e) i; state = q i }) ∙ sym (made-refused t m a b (sym told ∙ n))
 
-  pub fresh-good : not o ≡ false → v ≡ good → x ≡ blank t m a b → _≡_ {A = Made} (record { verdict = v; state = x }) (made t m a b)
-  fresh-good n e q = (λ i. record { verdict = e i; state = q i }) ∙ sym (made-good t m a b (on told n))
+  pub fresh-good : o ≡ true → u ≡ good → x ≡ blank t m a b → _≡_ {A = Made} (record { verdict = v; state = x }) (made t m a b)
+  fresh-good n e q = (λ i. record { verdict = (so ∙ e) i; state = q i }) ∙ sym (made-good t m a b (sym told ∙ n))
 
-pub ruleset making = (fresh-refused, fresh-good)
+  pub fresh-neither : o ≡ true → o ≡ false → _≡_ {A = Made} (record { verdict = v; state = x }) (made t m a b)
+  fresh-neither e n = absurd (false≢true (sym n ∙ e))
+
+pub ruleset making = (fresh-refused, fresh-good, fresh-neither)
 
 -- an exchange entered, n being the serial after its own
 pub enter-next : (x : Exchanges) (c k s m n : ℕ) → n ≡ upward s 1

@@ -17,6 +17,7 @@ use Rattle.exchange.specs.declared.Centre.{Centre}
 use Rattle.exchange.specs.declared.Exchanges.{Exchanges}
 use Rattle.exchange.specs.declared.Made.{Made}
 use Rattle.exchange.specs.declared.Found.{Found}
+use Rattle.exchange.specs.declared.Reached.{Reached}
 use Rattle.exchange.specs.declared.Replied.{Replied}
 use Rattle.exchange.specs.declared.Ticked.{Ticked}
 use Rattle.places.specs.Rows.{placeAt, lowestFree, upward, serialFor, fitting, lowOf, endOf, allSound, nothing, swept}
@@ -114,6 +115,10 @@ stepped x k w =
 abbrev pub untold : Exchanges → Verdict → Replied
 untold x v = record { verdict = v; place = 0; outcome = NOTHING; state = x }
 
+-- with the number of a refusal, 0 for none: the step of a place, or nothing told
+abbrev pub steppedBy : Exchanges → ℕ → ℕ → Reply → Replied
+steppedBy x n k w = cond (isGood (refusal n 0)) (stepped x k w) (untold x (refusal n 0))
+
 -- "A reply is given as its serial and one of confirm, answer, deny, bad answer", and with its source address a: the place that it fits takes its step
 abbrev pub answeredBy : Exchanges → ℕ → ℕ → Reply → Replied
 answeredBy x c s w =
@@ -122,6 +127,13 @@ answeredBy x c s w =
 
 unfoldable pub answered : Exchanges → List ℕ → ℕ → Reply → Replied
 answered x a s w = answeredBy x (centreOf x a) s w
+
+-- a reply before its step: the number of its refusal and its place
+abbrev pub reachOf : Replied → Reached
+reachOf y = record { number = y .verdict .number; place = y .place }
+
+abbrev pub unreached : ℕ → Reached
+unreached n = record { number = n; place = 0 }
 
 -- a tick that was refused
 abbrev pub unticked : Exchanges → Verdict → Ticked

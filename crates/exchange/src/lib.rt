@@ -7,7 +7,7 @@ ghost use Rattle.octets.specs.Searches.{same};
 ghost use Rattle.place.specs.Rules.{isOpen};
 ghost use Rattle.verdict.specs.Orders.{refusal};
 ghost use Rattle.verdict.specs.Refusals.{STATE};
-ghost use Rattle.exchange.specs.Table.{settled, centreOf, addressAt, nextAt, made, unfound, blank, found, entered, stepped, untold, answered, unticked, ticking};
+ghost use Rattle.exchange.specs.Table.{settled, centreOf, addressAt, nextAt, made, unfound, blank, found, placed, entered, unreached, reachOf, steppedBy, answered, unticked, ticking};
 ghost use Rattle.exchange.specs.Begins.{headedBy, modeOf, unbegun, begun, begunOutput};
 use label::Label;
 use packet::Header;
@@ -68,6 +68,12 @@ struct Found {
     serial: u16,
 }
 
+// A reply before its step: the number of its refusal, 0 for none, and the place that it fits.
+struct Reached {
+    number: u8,
+    place: usize,
+}
+
 // The place that was opened, the length of the packet that was written, and its serial.
 #[repr(C)]
 pub struct Begun {
@@ -106,16 +112,19 @@ impl Exchanges {
     pub fn fresh(timeout: u8, resends: u8, first: Address, second: Address) -> Made
         ensures { λ r. ⌜ r ≡ made timeout resends (first .bytes) (second .bytes) ⌝ }
     {
-        if !is_settled(timeout, resends, first, second) {
-            let nowhere = Address { bytes: [0; 6] };
-            return Made {
-                verdict: Verdict::refused(SETTING, 0),
-                state: blank(0, 0, nowhere, nowhere),
-            };
-        }
+        let settled = is_settled(timeout, resends, first, second);
+        let nowhere = Address { bytes: [0; 6] };
         Made {
-            verdict: Verdict::good(),
-            state: blank(timeout, resends, first, second),
+            verdict: if settled {
+                Verdict::good()
+            } else {
+                Verdict::refused(SETTING, 0)
+            },
+            state: if settled {
+                blank(timeout, resends, first, second)
+            } else {
+                blank(0, 0, nowhere, nowhere)
+            },
         }
     }
 
@@ -261,8 +270,18 @@ impl Exchanges {
     pub fn reply(self, source: Address, serial: u16, reply: Reply) -> Replied
         ensures { λ r. ⌜ r ≡ answered self (source .bytes) serial reply ⌝ }
     {
+        match reply {
+            Reply::Deny => self.step(self.reach(source, serial, Reply::Deny), Reply::Deny),
+            _ => self.step(self.reach(source, serial, reply), reply),
+        }
+    }
+
+    // The place that a reply fits, or why it fits none.
+    fn reach(self, source: Address, serial: u16, reply: Reply) -> Reached
+        ensures { λ r. ⌜ r ≡ reachOf (answered self (source .bytes) serial reply) ⌝ }
+    {
         if !self.is_settled() {
-            return self.unanswered(STATE);
+            return unreached(STATE);
         }
         let centre = self.centre_of(source);
         let places = self.places;
@@ -275,46 +294,50 @@ impl Exchanges {
             reply,
         );
         match search {
-            Search::Broken => self.unanswered(STATE),
-            Search::Outside => self.unanswered(STRAY),
-            Search::Nothing => self.unanswered(STRAY),
-            Search::At(place, _) => self.step(place, reply),
+            Search::Broken => unreached(STATE),
+            Search::Outside => unreached(STRAY),
+            Search::Nothing => unreached(STRAY),
+            Search::At(place, _) => Reached { number: 0, place },
         }
     }
 
-    // The step of the place that a reply fits.
-    fn step(self, place: usize, reply: Reply) -> Replied
-        requires { ⌜ place < 16 ⌝ }
-        ensures { λ r. ⌜ r ≡ stepped self place reply ⌝ }
+    // The step of the place that a reply reached, none where it was refused; one way out, so that the table is copied once.
+    fn step(self, at: Reached, reply: Reply) -> Replied
+        requires { ⌜ at .place < 16 ⌝ }
+        ensures { λ r. ⌜ r ≡ steppedBy self (at .number) (at .place) reply ⌝ }
     {
         let mut places = self.places;
-        let p = places[place];
-        let step = p.replied(reply, self.resends);
-        let now = step.place;
-        places[place] = now;
-        let centres = self.centres;
+        let mut place: usize = 0;
+        let mut outcome = places::UNTOLD;
+        if at.number == 0 {
+            let k = at.place;
+            let p = places[k];
+            let step = p.replied(reply, self.resends);
+            let now = step.place;
+            places[k] = now;
+            place = k;
+            outcome = step.outcome as u16;
+        }
         Replied {
-            verdict: Verdict::good(),
+            verdict: Verdict::refused(at.number, 0),
             place,
-            outcome: step.outcome as u16,
-            state: Exchanges {
-                places,
-                centres,
-                timeout: self.timeout,
-                resends: self.resends,
-            },
+            outcome,
+            state: self.with(places),
         }
     }
 
-    // A reply that was refused.
-    fn unanswered(self, number: u8) -> Replied
-        ensures { λ r. ⌜ r ≡ untold self (refusal number 0) ⌝ }
+    // The table with other places; the centres one by one, so that the compiler keeps them apart from the places.
+    fn with(self, places: [Place; 16]) -> Exchanges
+        ensures { λ r. ⌜ r ≡ placed self places ⌝ }
     {
-        Replied {
-            verdict: Verdict::refused(number, 0),
-            place: 0,
-            outcome: places::UNTOLD,
-            state: self,
+        let centres = self.centres;
+        let first = centres[0];
+        let second = centres[1];
+        Exchanges {
+            places,
+            centres: [first, second],
+            timeout: self.timeout,
+            resends: self.resends,
         }
     }
 
@@ -332,16 +355,10 @@ impl Exchanges {
         }
         let now = all.places;
         let reports = all.reports;
-        let centres = self.centres;
         Ticked {
             verdict: Verdict::good(),
             reports,
-            state: Exchanges {
-                places: now,
-                centres,
-                timeout: self.timeout,
-                resends: self.resends,
-            },
+            state: self.with(now),
         }
     }
 
@@ -424,6 +441,12 @@ fn unfound(number: u8) -> Found
         place: 0,
         serial: 0,
     }
+}
+
+fn unreached(number: u8) -> Reached
+    ensures { λ r. ⌜ r ≡ unreached number ⌝ }
+{
+    Reached { number, place: 0 }
 }
 
 // A table with no exchange open.

@@ -1,16 +1,15 @@
--- Two rows compared element by element: that one is the other, and the loop that compares six, of which what is left decides as all does.
--- By induction on both rows. Assumes nothing.
-use Prim.Native.Nat.{ℕ, _+_, _≤_, _<_}
-use native.Mathlib.Numerals.{add-one}
-use native.Mathlib.Omega.{arith}
-use mathlib.Core.Bool.{Bool, true, false, _&&_, and-eq-true-iff, false≢true}
+-- Two rows compared: that one is the other, and six bytes by their numbers. By induction on both rows. Assumes nothing.
+use Prim.Native.Nat.{ℕ}
+use mathlib.Core.Bool.{Bool, true, false, and-eq-true-iff, false≢true}
 use mathlib.Core.List.{List, [], _∷_}
 use mathlib.Core.Path.{_≡_, refl, sym, ap, _∙_}
-use borrow.Author.Tests.{eq-eqb, ne-eqb, eqb-true}
+use borrow.Author.Tests.{eq-eqb, eqb-true}
 use lib.Dec.{eqb}
-use lib.ListN.{length, getD, drop, drop-of-length-le}
-use lib.Seq.{drop-cons}
+use lib.ListN.{length}
+use Rattle.octets.specs.Numbers.{Octets, lowFirst, bytesOf}
 use Rattle.octets.specs.Searches.{same}
+use Rattle.octets.proofs.Flags.{both-or-none}
+use Rattle.octets.proofs.Numbers.{low-bytes}
 
 pub same-is : (a b : List ℕ) → same a b ≡ true → a ≡ b
 unfolding same
@@ -26,30 +25,15 @@ unfolding same
 same-self [] = refl
 same-self (x ∷ a) = simp (eq-eqb x x refl) (same-self a)
 
-pub record Alike (a b : List ℕ) (i : ℕ) : Type 0 where
-  pub rest : same (drop i a) (drop i b) ≡ same a b
+-- six bytes are the same where their numbers are
+pub by-numbers : (a b : List ℕ) (m n : ℕ) → length a ≡ 6 → length b ≡ 6 → (m ≡ lowFirst a) × Octets a → (n ≡ lowFirst b) × Octets b → eqb m n ≡ same a b
+by-numbers a b m n long wide x y = both-or-none (eqb m n) (same a b) as-numbers as-bytes
+  where
+    as-numbers : eqb m n ≡ true → same a b ≡ true
+    as-numbers e =
+        let equal : lowFirst a ≡ lowFirst b = sym (x .0) ∙ eqb-true m n e ∙ y .0 in
+        let is : a ≡ b = sym (low-bytes a (x .1)) ∙ (λ i. bytesOf ((long ∙ sym wide) i) (equal i)) ∙ low-bytes b (y .1) in
+        ap (same a) (sym is) ∙ same-self a
 
-module _ (a b : List ℕ) where
-  pub alike-all : Alike a b 0
-  alike-all = record { rest = refl }
-
-  module _ (i : ℕ) (long : length a ≡ 6) (wide : length b ≡ 6) (l : Alike a b i) where
-    next : i < 6 → same (drop i a) (drop i b) ≡ eqb (getD a i 0) (getD b i 0) && same (drop (i + 1) a) (drop (i + 1) b)
-    unfolding same
-    next h = rw (drop-cons a i 0 (omega arith)) (rw (drop-cons b i 0 (omega arith)) (rw (add-one i) refl))
-
-    pub alike-on : i < 6 → getD a i 0 ≡ getD b i 0 → Alike a b (i + 1)
-    alike-on h e =
-        record { rest = sym (ap (λ (t : Bool). t && same (drop (i + 1) a) (drop (i + 1) b)) (eq-eqb _ _ e)) ∙ sym (next h) ∙ l .rest }
-
-    pub alike-not : i < 6 → (getD a i 0 ≡ getD b i 0 → ⊥) → false ≡ same a b
-    alike-not h n = sym (ap (λ (t : Bool). t && same (drop (i + 1) a) (drop (i + 1) b)) (ne-eqb _ _ n)) ∙ sym (next h) ∙ l .rest
-
-    pub alike-end : 6 ≤ i → true ≡ same a b
-    unfolding same
-    alike-end h =
-        let over : length a ≤ i = omega arith in
-        let past : length b ≤ i = omega arith in
-        sym (λ j. same (drop-of-length-le a over j) (drop-of-length-le b past j)) ∙ l .rest
-
-pub ruleset alike = (alike-all, alike-on, alike-not, alike-end)
+    as-bytes : same a b ≡ true → eqb m n ≡ true
+    as-bytes e = eq-eqb m n (x .0 ∙ ap lowFirst (same-is a b e) ∙ sym (y .0))

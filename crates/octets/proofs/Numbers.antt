@@ -7,7 +7,7 @@ use native.Mathlib.Omega.{arith}
 use mathlib.Core.Path.{_≡_, refl, sym, ap, subst, _∙_}
 use mathlib.Core.List.{List, [], _∷_}
 use lib.ListN.{length, getD, take, drop, drop-of-length-le}
-use lib.Seq.{take-nil, drop-cons, getD-drop}
+use lib.Seq.{take-nil, take-all, drop-cons, getD-drop}
 use Rattle.octets.specs.Numbers.{Octets, lowFirst, bytesOf}
 
 -- a number of one byte more: the byte at its place and 256 times what follows
@@ -35,12 +35,20 @@ low-four s at =
     (arith, low-step s at 3, low-step s (suc at) 2, low-step s at 1, low-step s (suc at) 0))
 
 -- read byte by byte, or two and two
-pub of-two : (s : List ℕ) (at a b : ℕ) → a ≡ getD s at 0 → b ≡ getD s (at + 1) 0 → a + 256 * b ≡ lowFirst (take 2 (drop at s))
-of-two s at a b e f = (λ i. e i + 256 * f i) ∙ sym (low-two s at)
+pub of-two : (s : List ℕ) (at a b r : ℕ) → a ≡ getD s at 0 → b ≡ getD s (at + 1) 0 → r ≡ a + 256 * b → r ≡ lowFirst (take 2 (drop at s))
+of-two s at a b r e f j = j ∙ (λ i. e i + 256 * f i) ∙ sym (low-two s at)
 
 pub of-four : (s : List ℕ) (at a b r : ℕ) → a ≡ lowFirst (take 2 (drop at s)) → b ≡ lowFirst (take 2 (drop (at + 2) s)) → r ≡ a + 65536 * b
     → r ≡ lowFirst (take 4 (drop at s))
 of-four s at a b r e f j = j ∙ (λ i. e i + 65536 * f i) ∙ sym (low-four s at)
+
+-- the number of six bytes, by two, two and two
+pub of-six : (s : List ℕ) (a b l c : ℕ) → length s ≡ 6 → a ≡ getD s 0 0 + 256 * getD s 1 0 → b ≡ getD s 2 0 + 256 * getD s 3 0 → l ≡ a + 65536 * b
+    → c ≡ getD s 4 0 + 256 * getD s 5 0 → l + 4294967296 * c ≡ lowFirst s
+unfolding lowFirst
+of-six s a b l c long e f g h =
+    let all : lowFirst (take 6 (drop 0 s)) ≡ lowFirst s = ap lowFirst (take-all 6 s (omega arith)) in
+    omega (arith, all, low-step s 0 5, low-step s 1 4, low-step s 2 3, low-step s 3 2, low-step s 4 1, low-step s 5 0)
 
 take-twice : (n : ℕ) (s : List ℕ) → take n (take n s) ≡ take n s
 take-twice zero s = refl

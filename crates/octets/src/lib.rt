@@ -3,7 +3,7 @@ ghost use mathlib.Core.Path.{_≡_};
 ghost use denote.Ref.{ptr};
 ghost use Prim.Native.Nat.{_+_, _*_, _<_, _%_};
 ghost use lib.ListN.{getD, take, drop};
-ghost use Rattle.octets.specs.Numbers.{lowFirst, bytesOf, signedOf, bitsOf};
+ghost use Rattle.octets.specs.Numbers.{Octets, lowFirst, bytesOf, signedOf, bitsOf};
 ghost use Rattle.octets.specs.Parts.{part, partPlace, putAt, oneByOne};
 ghost use Rattle.octets.specs.Searches.{same};
 ghost use Rattle.octets.specs.Sums.{total};
@@ -33,7 +33,7 @@ pub fn two_at(s: &[u8], at: usize) -> u16
     if s.len() <= at {
         return 0;
     }
-    (byte_at(s, at) as u16) + 256 * (byte_at(s, at + 1) as u16)
+    two(byte_at(s, at), byte_at(s, at + 1))
 }
 
 // The number of the four bytes from a place on.
@@ -48,6 +48,13 @@ pub fn four_at(s: &[u8], at: usize) -> u32
     }
     let p = &s[at..at + 4];
     joined(two_at(p, 0), two_at(p, 2))
+}
+
+// The number of two bytes.
+fn two(low: u8, high: u8) -> u16
+    ensures { λ r. ⌜ r ≡ low + 256 * high ⌝ }
+{
+    (low as u16) + 256 * (high as u16)
 }
 
 // The number of two bytes and the two that follow them.
@@ -77,18 +84,20 @@ pub fn six_at(s: &[u8], at: usize) -> [u8; 6]
     [s[at], s[at + 1], s[at + 2], s[at + 3], s[at + 4], s[at + 5]]
 }
 
-// Whether six bytes are the same as six others.
+// Whether six bytes are the same as six others, by their numbers.
 pub fn same_six(a: [u8; 6], b: [u8; 6]) -> bool
     ensures { λ r. ⌜ r ≡ same a b ⌝ }
 {
-    let mut i: usize = 0;
-    while i < 6 {
-        if a[i] != b[i] {
-            return false;
-        }
-        i = i + 1;
-    }
-    true
+    number_of(a) == number_of(b)
+}
+
+// The number of six bytes.
+fn number_of(a: [u8; 6]) -> u64
+    ensures { λ r. ⌜ r ≡ lowFirst a ⌝ }
+    ensures { λ r. ⌜ Octets a ⌝ }
+{
+    let low = joined(two(a[0], a[1]), two(a[2], a[3]));
+    (low as u64) + 4294967296 * (two(a[4], a[5]) as u64)
 }
 
 pub fn two_bytes(x: u16) -> [u8; 2]

@@ -5,5 +5,6 @@ pub mod Held
 pub mod Sought
 mod Reaching
 mod Loops
+mod Marks
 mod Sweeping
 mod Hitting

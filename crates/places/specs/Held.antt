@@ -1,6 +1,6 @@
 -- The serials that are open, as a row of numbers that is searched at once: at each place the serial under which it is open.
 -- Assumes nothing.
-use Prim.Native.Nat.{ℕ, _≤_, _<_}
+use Prim.Native.Nat.{ℕ, _+_, _%_, _≤_, _<_}
 use mathlib.Core.Bool.{Bool, not, cond}
 use mathlib.Core.List.{List}
 use mathlib.Core.Path.{_≡_}
@@ -48,3 +48,7 @@ pub record Weighed (ps : List Place) (ws : List ℕ) : Type 0 where
 pub record Past (ws : List ℕ) (n : ℕ) : Type 0 where
   pub few : n ≤ 16
   pub none : (k : ℕ) → n ≤ k → k < 16 → getD ws k 0 ≡ 0
+
+-- a mark for every serial that stands among the eight from one number on, at its last four bits
+pub record Marked (marks row : List ℕ) (low : ℕ) : Type 0 where
+  pub met : (k : ℕ) → low ≤ k → k < low + 8 → getD row k 0 < NONE → getD marks (getD row k 0 % 16) 0 ≡ 0 → ⊥

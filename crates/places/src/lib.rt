@@ -1,13 +1,13 @@
 // The searches over a centre's places, and the tick of all of them.
 ghost use mathlib.Core.Path.{_≡_};
 ghost use mathlib.Core.Bool.{_&&_};
-ghost use Prim.Native.Nat.{_+_, _≤_, _<_};
+ghost use Prim.Native.Nat.{_+_, _%_, _≤_, _<_};
 ghost use lib.Dec.{ltb, leb};
 ghost use lib.ListN.{replicate};
 ghost use Rattle.octets.specs.Searches.{firstFit};
 ghost use Rattle.place.specs.Rules.{isOpen};
 ghost use Rattle.places.specs.Rows.{lowOf, ownerOf, opening, reached, upward, nothing, unswept, swept};
-ghost use Rattle.places.specs.Held.{standsAt, standsIn, freeIn, serialIn, Weighed, Past};
+ghost use Rattle.places.specs.Held.{standsAt, standsIn, freeIn, serialIn, Weighed, Past, Marked};
 use place::NOTHING;
 use place::Place;
 use place::Reply;
@@ -67,6 +67,26 @@ fn is_taken(row: &[u32; 16], k: usize, serial: u16) -> bool
     ensures { λ r. ⌜ serial < 65536 ⌝ }
 {
     stands_in(row, k / SHARE * SHARE, serial)
+}
+
+// The same where each serial that stands there has left its mark: one without a mark is not looked for.
+fn is_met(marks: &[u8; 16], row: &[u32; 16], k: usize, serial: u16) -> bool
+    requires { ⌜ k < 16 ⌝ }
+    requires { ⌜ Marked (now marks) (now row) (lowOf (ownerOf k)) ⌝ }
+    ensures { λ r. ⌜ r ≡ standsIn (now (row .entry)) (lowOf (ownerOf k)) serial ⌝ }
+    ensures { λ r. ⌜ serial < 65536 ⌝ }
+{
+    if marks[mark_of(serial)] == 0 {
+        return false;
+    }
+    is_taken(row, k, serial)
+}
+
+// Where a serial leaves its mark; serials that follow each other leave theirs apart.
+fn mark_of(serial: u16) -> usize
+    ensures { λ r. ⌜ r ≡ serial % 16 ⌝ }
+{
+    (serial % 16) as usize
 }
 
 // Whether an exchange of these numbers is open and keeps the state's rules; numbers and no place, which would be put together and taken apart again.
@@ -231,25 +251,32 @@ pub fn find_fitting(
 {
     let weights = weigh(places);
     let mut row = [NONE; 16];
-    let mut i = begin(&weights);
-    while 0 < i {
-        let k = i - 1;
-        if weights[k] != 0 {
-            if !is_kept(
-                places[k].mode,
-                places[k].resends,
-                places[k].age,
-                timeout,
-                resends,
-            ) {
-                return Search::Broken;
+    let mut end: usize = 16;
+    while 0 < end {
+        let low = end - SHARE;
+        let mut marks: [u8; 16] = [0; 16];
+        let mut i = end;
+        while low < i {
+            let k = i - 1;
+            if weights[k] != 0 {
+                if !is_kept(
+                    places[k].mode,
+                    places[k].resends,
+                    places[k].age,
+                    timeout,
+                    resends,
+                ) {
+                    return Search::Broken;
+                }
+                if is_met(&marks, &row, k, places[k].serial) {
+                    return Search::Broken;
+                }
+                marks[mark_of(places[k].serial)] = 1;
+                row[k] = places[k].serial as u32;
             }
-            if is_taken(&row, k, places[k].serial) {
-                return Search::Broken;
-            }
-            row[k] = places[k].serial as u32;
+            i = k;
         }
-        i = k;
+        end = low;
     }
     if 2 <= centre {
         return Search::Outside;

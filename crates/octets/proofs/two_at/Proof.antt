@@ -12,9 +12,6 @@ two-at-spec =
     (λ c. search numbers)  -- s.len() <= at
     unasked
     (λ c. search needs)
-    (λ c. search needs)
     unasked
-    (λ c. search needs)
-    (λ c. search needs)
-    (λ c. search needs)
+    unasked
     (λ c. search numbers))

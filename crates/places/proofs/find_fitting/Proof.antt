@@ -1,27 +1,38 @@
--- `places::find_fitting` meets its contract. The loop's invariant: the places from i on keep the rules, and the row
--- has what they hold. Assumes nothing.
+-- `places::find_fitting` meets its contract. The loops' invariants: the places from i on keep the rules, and the row has what they hold; of a centre's
+-- eight, those that were looked at have left their marks. Assumes nothing.
+use Prim.Native.Nat.{_-_}
 use borrow.Author.Needs.{needs}
 use Rattle.octets.proofs.Asked.{unasked}
-use Rattle.places.proofs.Loops.{Looked, looking}
+use Rattle.places.proofs.Loops.{Looked, looking, looked-none, looked-free, looked-open}
+use Rattle.places.proofs.Marks.{Ends, Met, last-ends, positive, met-none, met-marked, met-free, met-open, met-all, met-ends}
 use Rattle.places.proofs.Reaching.{reaching}
 use Rattle.places.proofs.find_fitting.Statement.{statement}
 use Rattle.places.proofs.find_fitting.Tie as tie
 
+abbrev Inv-loop2 : tie.InvT-loop2
+Inv-loop2 centre timeout resends serial reply places weights row₀ end low marks₀ i₀ row marks i = Looked timeout resends places row i × Met marks row low i
+
+abbrev μ-loop2 : tie.MeasureT-loop2
+μ-loop2 centre timeout resends serial reply places weights row₀ end low marks₀ i₀ row marks i = i
+
 abbrev Inv-loop : tie.InvT-loop
-Inv-loop centre timeout resends serial reply places weights row₀ i₀ row i = Looked timeout resends places row i
+Inv-loop centre timeout resends serial reply places weights row₀ end₀ row end = Looked timeout resends places row end × Ends end
 
 abbrev μ-loop : tie.MeasureT-loop
-μ-loop centre timeout resends serial reply places weights row₀ i₀ row i = i
+μ-loop centre timeout resends serial reply places weights row₀ end₀ row end = end
 
 pub find-fitting-spec : {M : Type 1} → statement M
 find-fitting-spec =
     tie.close
     (tie.spec
+    Inv-loop2
+    μ-loop2
     Inv-loop
     μ-loop
     unasked
-    unasked
-    (λ c. search (looking, needs))
+    (λ c. (search (looked-none, needs), search last-ends))
+    (λ c. search needs)
+    (λ c. (search, search (met-none, needs)))
     (λ c. search needs)
     (λ c. search needs)
     (λ c. search needs)
@@ -32,20 +43,26 @@ find-fitting-spec =
     (λ c. search needs)
     (λ c. search needs)
     unasked
-    (λ c. search (looking, needs))  -- !is_kept(..)
+    (λ c. search (looking, positive, needs))  -- !is_kept(..)
     (λ c. search needs)
     (λ c. search needs)
-    (λ c κs. search needs)
-    (λ c. search (looking, needs))  -- is_taken(&row, k, places[k].serial)
+    (λ c κs. (search needs, search (met-marked, needs)))
+    (λ c. search (looking, positive, needs))  -- is_met(&marks, &row, k, places[k].serial)
+    (λ c. search needs)
+    (λ c. search needs)
+    unasked
     (λ c. search needs)
     (λ c. search needs)
     (λ c. search needs)
     (λ c. search needs)
     (λ c. search needs)
     (λ c. search needs)
-    (λ c. search (looking, needs))
     (λ c. search needs)
-    (λ c. search (looking, needs))  -- weights[k] != 0
+    (λ c. (search (looked-open, positive, needs), search (met-open, needs)))
+    (λ c. search needs)
+    (λ c. (search (looked-free, positive, needs), search (met-free, needs)))  -- weights[k] != 0
+    (λ c. search needs)
+    (λ c. (search (met-all, needs), search (met-ends, needs)))
     (λ c. search reaching)  -- 2 <= centre
     (λ c. search needs)
     (λ c κs. search needs)

@@ -1,4 +1,5 @@
--- `exchange::fresh` meets its contract by its one test. Assumes nothing.
+-- `exchange::fresh` meets its contract by its one test, which decides on verdict and table. Assumes nothing.
+use mathlib.Core.Logic.{⊎-elim}
 use Rattle.octets.proofs.Asked.{unasked}
 use Rattle.exchange.proofs.Calls.{making}
 use Rattle.exchange.proofs.Exchanges.fresh.Statement.{statement}
@@ -11,7 +12,7 @@ fresh-spec =
     unasked
     unasked
     unasked
-    (λ c. search making depth 6)  -- !is_settled(timeout, resends, first, second)
     unasked
     unasked
-    (λ c. search making depth 6))
+    (λ c. ⊎-elim (λ w. search making depth 6) (λ w. search making depth 6) (c .before .before .if1 .came))  -- settled
+    (λ c. ⊎-elim (λ w. search making depth 6) (λ w. search making depth 6) (c .before .before .if1 .came)))

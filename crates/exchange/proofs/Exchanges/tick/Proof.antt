@@ -15,4 +15,5 @@ tick-spec =
     unasked
     (λ c. search ticked depth 6)  -- !all.sound
     unasked
+    unasked
     (λ c. search ticked depth 6))
