@@ -201,6 +201,15 @@ static void bench_begin_refused(void)
     begin_send("begin_and_write: a centre 2, full table, refused", TRAWNOSZ_CENTRES, 8, 8);
 }
 
+/* Both tables full, each centre's serials sixteen apart: they leave one mark, so that each is looked for among the others. */
+static void set_apart(void)
+{
+    set(8, 8, 3, 0);
+    for (size_t i = 0; i < TRAWNOSZ_EXCHANGES; i++)
+        plain.places[i].serial *= 16;
+    ours = plain;
+}
+
 static void bench_deny(void)
 {
     set(0, 0, 3, 0);
@@ -213,6 +222,8 @@ static void bench_deny(void)
     reply("reply_deny: full table, last place, resent", trawnosz_reply_deny, twin_reply_deny, from_second, 7);
     set(8, 8, 0, 0);
     reply("reply_deny: full table, last place, failed", trawnosz_reply_deny, twin_reply_deny, from_second, 7);
+    set_apart();
+    reply("reply_deny: full table, serials 16 apart, last place, resent", trawnosz_reply_deny, twin_reply_deny, from_second, 7 * 16);
     set(8, 8, 3, 0);
     reply("reply_deny: full table, from neither centre, refused", trawnosz_reply_deny, twin_reply_deny, from_neither, 7);
 }

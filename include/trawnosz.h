@@ -465,15 +465,15 @@ trawnosz_found trawnosz_release(uint8_t *out, size_t out_length);
  * memmove and memset need; read out of the archive's code by tests/stack. ----
  *
  *   trawnosz_answer_to                304
- *   trawnosz_begin_and_write          832
- *   trawnosz_exchanges_fresh          264
+ *   trawnosz_begin_and_write          864
+ *   trawnosz_exchanges_fresh            8
  *   trawnosz_find_description         112
  *   trawnosz_find_object              112
- *   trawnosz_find_part                152
+ *   trawnosz_find_part                160
  *   trawnosz_find_unit                176
  *   trawnosz_fresh                     16
  *   trawnosz_judge_packet             144
- *   trawnosz_judge_table              104
+ *   trawnosz_judge_table              112
  *   trawnosz_judge_unit                80
  *   trawnosz_judge_unit_under          80
  *   trawnosz_name                      88
@@ -481,12 +481,12 @@ trawnosz_found trawnosz_release(uint8_t *out, size_t out_length);
  *   trawnosz_read_packet              176
  *   trawnosz_receive                  304
  *   trawnosz_release                   31
- *   trawnosz_reply_answer             752
- *   trawnosz_reply_bad_answer         752
- *   trawnosz_reply_confirm            752
- *   trawnosz_reply_deny               752
- *   trawnosz_take_packet              800
- *   trawnosz_tick                     768
+ *   trawnosz_reply_answer             552
+ *   trawnosz_reply_bad_answer         552
+ *   trawnosz_reply_confirm            568
+ *   trawnosz_reply_deny               552
+ *   trawnosz_take_packet              872
+ *   trawnosz_tick                     800
  *   trawnosz_unit_length                8
  *   trawnosz_write_object             234
  *   trawnosz_write_packet             224

@@ -11,13 +11,13 @@ use lib.Dec.{eqb, leb}
 use lib.ListN.{length, getD, set, replicate, getD-replicate}
 use lib.Seq.{getD-set-same, getD-set-other}
 use Rattle.octets.specs.Searches.{firstFit, anyFits}
-use Rattle.octets.proofs.Searches.{first-same, found-there}
+use Rattle.octets.proofs.Searches.{found-there}
 use Rattle.octets.proofs.Flags.{by-test, both-or-none}
 use Rattle.place.specs.declared.Place.{Place}
 use Rattle.place.specs.Rules.{isOpen, holds}
 use Rattle.place.proofs.Kept.{holds-is, open-holds}
-use Rattle.places.specs.Rows.{placeAt, freeAt, holdsAt, lowestFree, isOpenAs, doubleAt, upward, serialFor}
-use Rattle.places.specs.Held.{NONE, heldBy, Held, standsAt, standsIn, bareAt, freeIn}
+use Rattle.places.specs.Rows.{placeAt, holdsAt, isOpenAs, doubleAt, upward, serialFor}
+use Rattle.places.specs.Held.{NONE, heldBy, Held, standsAt, standsIn}
 
 module _ (ps : List Place) where
   up-one : (i j k : ℕ) → i ≡ j + 1 → (k ≡ j → ⊥) → leb i k ≡ leb j k
@@ -104,21 +104,6 @@ module _ (ps : List Place) where
         (λ i. upward next (firstFit
         (λ j. not (stands-as-open row 0 from from (upward next j) few (omega arith) held (omega arith) (omega arith) (λ k l u. l) i)) 0 8))
         ∙ ap (λ (n : ℕ). upward next (firstFit (λ j. not (isOpenAs ps from (from + 8) (upward next j))) 0 n)) (sym eight)
-
-    -- no serial stands in the row exactly where a place is free
-    pub free-in-row : ((k : ℕ) → k < 16 → isOpen (placeAt ps k .mode) ≡ true → placeAt ps k .serial < 65536) → freeIn row from ≡ lowestFree ps from (from + 8)
-    unfolding freeIn lowestFree
-    free-in-row small =
-        first-same (bareAt row) (freeAt ps) from 8 (λ k l h. bare k l (omega arith)) ∙ ap (firstFit (freeAt ps) from) (sym eight)
-      where
-        bare : (k : ℕ) → from ≤ k → k < 16 → bareAt row k ≡ freeAt ps k
-        bare k l h =
-            let p = placeAt ps k in
-            let is : getD row k 0 ≡ heldBy p = held k h ∙ ap (at k) (le-leb 0 k (omega arith)) in
-            ap (λ (n : ℕ). eqb n NONE) is
-            ∙ by-test (isOpen (p .mode))
-            (λ o. ap (λ (b : Bool). eqb (cond b (p .serial) NONE) NONE) o ∙ ne-eqb (p .serial) NONE (λ e. omega (arith, e, small k h o)) ∙ sym (ap not o))
-            (λ o. ap (λ (b : Bool). eqb (cond b (p .serial) NONE) NONE) o ∙ sym (ap not o))
 
   -- a place behind which its serial stands among its centre's is a double, and one behind which it does not is none
   pub double-by-row : (row : List ℕ) (i j from : ℕ) → i ≡ j + 1 → from ≤ 8 → from ≤ j → j < from + 8 → placeAt ps j .serial < 65536 → Held row ps i

@@ -7,7 +7,6 @@ use mathlib.Core.Path.{_≡_, refl, sym, ap, subst, subst⁻¹, _∙_}
 use lib.Arith.{lt-of-le-ne}
 use lib.Dec.{eqb, ltb, leb}
 use lib.ListN.{length, getD, set, replicate, length-set}
-use lib.Bits.{bitOr, or-zero-l, or-add-and, and-le-r}
 use lib.Seq.{getD-set-same, getD-set-other}
 use borrow.Author.Tests.{eq-eqb, ne-eqb, eqb-true, eqb-false, lt-ltb, le-ltb}
 use Rattle.octets.specs.Searches.{firstFit}
@@ -18,9 +17,9 @@ use Rattle.place.specs.Rules.{isOpen, isZero, keeps}
 use Rattle.place.proofs.Kept.{zero-free, zero-keeps, kept-open, kept-as-open}
 use Rattle.places.specs.declared.Search.the-variants.{Broken, Outside, Nothing, At}
 use Rattle.places.specs.declared.Swept.{Swept}
-use Rattle.places.specs.Rows.{placeAt, keepsAt, lowestFree, doubleAt, lowOf, endOf, ownerOf, allSound, upward, sought, opening, unswept, swept}
-use Rattle.places.specs.Held.{NONE, heldBy, Held, standsIn, bareAt, freeIn, serialIn, Weighed, Past}
-use Rattle.places.proofs.Held.{held-none, held-more, held-on, serial-in-row, free-in-row, double-by-row}
+use Rattle.places.specs.Rows.{placeAt, freeAt, keepsAt, lowestFree, doubleAt, lowOf, endOf, ownerOf, allSound, upward, sought, opening, unswept, swept}
+use Rattle.places.specs.Held.{NONE, heldBy, Held, standsIn, serialIn, Weighed}
+use Rattle.places.proofs.Held.{held-none, held-more, held-on, serial-in-row, double-by-row}
 use Rattle.places.proofs.Rules.{sound-keeps, sound-single, each-sound}
 use Rattle.places.proofs.Serials.{upward-none, upward-more}
 use Rattle.places.proofs.Sought.{when-broken, when-outside, when-nothing, when-at}
@@ -56,38 +55,6 @@ module _ (ps : List Place) where
 
 pub ruleset weighing = (none-weighed, one-weighed, all-weighed)
 
--- the bits of the numbers before i
-or-is-zero : (a b : ℕ) → bitOr a b ≡ 0 → (a ≡ 0) × (b ≡ 0)
-or-is-zero zero b e = (refl, sym (or-zero-l b) ∙ e)
-or-is-zero (suc a) b e = absurd (omega (arith, e, or-add-and (suc a) b, and-le-r (suc a) b))
-
-pub record Gathered (ws : List ℕ) (bits i : ℕ) : Type 0 where
-  pub none : bits ≡ 0 → (k : ℕ) → k < i → getD ws k 0 ≡ 0
-
-module _ (ws : List ℕ) where
-  pub none-gathered : Gathered ws 0 0
-  none-gathered = record { none = λ z k h. absurd (omega arith) }
-
-  module _ (bits i : ℕ) (g : Gathered ws bits i) where
-    pub one-gathered : Gathered ws (bitOr bits (getD ws i 0)) (i + 1)
-    one-gathered =
-        record {
-          none =
-              λ z k h.
-              let both = or-is-zero bits (getD ws i 0) z in
-              by-test (eqb k i)
-              (λ q. ap (λ (n : ℕ). getD ws n 0) (eqb-true k i q) ∙ both .1)
-              (λ q. g .none (both .0) k (let n = eqb-false k i q in let m : k < i = lt-of-le-ne (omega arith) n in m));
-        }
-
-    pub all-free : 16 ≤ i → bits ≡ 0 → Past ws 0
-    all-free out z = record { few = omega arith; none = λ k l h. g .none z k (omega arith) }
-
-  pub some-open : Past ws 16
-  some-open = record { few = omega arith; none = λ k l h. absurd (omega arith) }
-
-pub ruleset gathering = (none-gathered, one-gathered, all-free, some-open)
-
 -- whether numbers are those of an open place that keeps the rules, by the tests
 module _ (m n a t r : ℕ) (o : Bool) (told : o ≡ isOpen m) where
   pub kept-shut : not o ≡ true → false ≡ isOpen m && (ltb a t && leb n r)
@@ -109,7 +76,6 @@ pub record Looked (t r : ℕ) (ps : List Place) (row : List ℕ) (i : ℕ) : Typ
   pub held : Held row ps i
   pub kept : (k : ℕ) → i ≤ k → k < 16 → keepsAt t r ps k ≡ true
   pub single : (k : ℕ) → i ≤ k → k < 16 → doubleAt ps (endOf (ownerOf k)) k ≡ false
-  pub small : (k : ℕ) → i ≤ k → k < 16 → isOpen (placeAt ps k .mode) ≡ true → placeAt ps k .serial < 65536
 
 -- what holds of a place and of all behind it
 one-more : (P : ℕ → Type 0) (i : ℕ) → 0 < i → P (i - 1) → ((k : ℕ) → i ≤ k → k < 16 → P k) → (k : ℕ) → i - 1 ≤ k → k < 16 → P k
@@ -128,7 +94,6 @@ module _ (t r : ℕ) (ps : List Place) where
         held = held-none ps;
         kept = λ k l h. absurd (omega arith);
         single = λ k l h. absurd (omega arith);
-        small = λ k l h o. absurd (omega arith);
       }
 
   -- ws is the places' numbers
@@ -147,7 +112,6 @@ module _ (t r : ℕ) (ps : List Place) where
           held = held-on ps row i (i - 1) (omega arith) o (s .held);
           kept = one-more (λ k. keepsAt t r ps k ≡ true) i below (zero-keeps p t r yes) (s .kept);
           single = one-more (λ k. doubleAt ps (endOf (ownerOf k)) k ≡ false) i below (simp o) (s .single);
-          small = one-more (λ k. isOpen (placeAt ps k .mode) ≡ true → placeAt ps k .serial < 65536) i below (λ a. absurd (false≢true (sym o ∙ a))) (s .small);
         }
 
     -- k is whether it is open and keeps the rules for a place
@@ -191,7 +155,6 @@ module _ (t r : ℕ) (ps : List Place) where
               held = subst (λ (y : ℕ). Held (set row (i - 1) y) ps (i - 1)) own (held-more ps row i (i - 1) (omega arith) (s .long) (s .held));
               kept = one-more (λ j. keepsAt t r ps j ≡ true) i below (on keeping m) (s .kept);
               single = one-more (λ j. doubleAt ps (endOf (ownerOf j)) j ≡ false) i below (sym double-is ∙ f) (s .single);
-              small = one-more (λ j. isOpen (placeAt ps j .mode) ≡ true → placeAt ps j .serial < 65536) i below (λ o. told .1) (s .small);
             }
 
         pub sought-double : (c x y : ℕ) → b ≡ true → Broken ≡ sought t r ps c x y
@@ -208,18 +171,6 @@ module _ (t r : ℕ) (ps : List Place) where
       unfolding swept
       sweep-breaks y m q = q ∙ simp (sym (one-breaks m))
 
-  -- before the first turn where the places from a number on are free
-  pub looked-past : (ws : List ℕ) (n : ℕ) → Weighed ps ws → Past ws n → Looked t r ps (replicate 16 NONE) n
-  looked-past ws n w p = down (16 - n) n (omega (arith, p .few)) (p .none)
-    where
-      down : (m n : ℕ) → n + m ≡ 16 → ((k : ℕ) → n ≤ k → k < 16 → getD ws k 0 ≡ 0) → Looked t r ps (replicate 16 NONE) n
-      down zero n e free = let all : 16 ≡ n = omega arith in subst (Looked t r ps (replicate 16 NONE)) all looked-none
-      down (suc m) n e free =
-          let one : n + 1 - 1 ≡ n = omega arith in
-          let behind = down m (n + 1) (omega arith) (λ k l h. free k (omega arith) h) in
-          subst (Looked t r ps (replicate 16 NONE)) one
-          (looked-free (replicate 16 NONE) (n + 1) (omega arith) behind ws w (free (n + 1 - 1) (omega arith) (omega arith)))
-
   -- after the last turn
   module _ (row : List ℕ) (i : ℕ) (out : i ≤ 0) (s : Looked t r ps row i) where
     pub looked-sound : allSound t r ps ≡ true
@@ -228,38 +179,29 @@ module _ (t r : ℕ) (ps : List Place) where
     pub all-held : Held row ps 0
     all-held = let end : i ≡ 0 = omega arith in subst (Held row ps) end (s .held)
 
-    pub all-small : (k : ℕ) → k < 16 → isOpen (placeAt ps k .mode) ≡ true → placeAt ps k .serial < 65536
-    all-small k h = s .small k (omega arith) h
+pub ruleset looking = (looked-free, sought-breaks, sought-double, looked-open)
 
-pub ruleset looking = (looked-past, looked-free, sought-breaks, sought-double, looked-open)
+-- the loop that looks for a free place among the eight from one number on: what is left decides as all does
+pub record Filled (ps : List Place) (from k : ℕ) : Type 0 where
+  pub low : from ≤ k
+  pub same : firstFit (freeAt ps) k (from + 8 - k) ≡ lowestFree ps from (from + 8)
 
--- the loop that looks for a place at which no serial stands: what is left decides as all does
-pub record Bare (row : List ℕ) (from end i : ℕ) : Type 0 where
-  pub limit : end ≡ from + 8
-  pub low : from ≤ i
-  pub same : firstFit (bareAt row) i (end - i) ≡ freeIn row from
+module _ (ps : List Place) (from : ℕ) where
+  pub filled-none : Filled ps from from
+  unfolding lowestFree
+  filled-none = record { low = omega arith; same = refl }
 
-module _ (row : List ℕ) (from end : ℕ) where
-  pub bare-all : end ≡ from + 8 → Bare row from end from
-  unfolding freeIn
-  bare-all e = let all : end - from ≡ 8 = omega arith in record { limit = e; low = omega arith; same = ap (firstFit (bareAt row) from) all }
+  module _ (k : ℕ) (l : Filled ps from k) where
+    -- b is whether the place is open
+    module _ (b : Bool) (told : b ≡ isOpen (placeAt ps k .mode)) (h : k < from + 8) where
+      pub filled-on : not b ≡ false → Filled ps from (k + 1)
+      filled-on n = record { low = omega (arith, l .low); same = sym (first-on (freeAt ps) k (from + 8) h (sym (ap not told) ∙ n)) ∙ l .same }
 
-  module _ (i : ℕ) (l : Bare row from end i) where
-    pub bare-here : i < end → getD row i 0 ≡ NONE → i ≡ freeIn row from
-    bare-here h e = sym (first-here (bareAt row) i end h (eq-eqb (getD row i 0) NONE e)) ∙ l .same
+      filled-here : not b ≡ true → k ≡ lowestFree ps from (from + 8)
+      filled-here n = sym (first-here (freeAt ps) k (from + 8) h (sym (ap not told) ∙ n)) ∙ l .same
 
-    pub bare-on : i < end → (getD row i 0 ≡ NONE → ⊥) → Bare row from end (i + 1)
-    bare-on h e =
-        record {
-          limit = l .limit;
-          low = omega (arith, l .low);
-          same = sym (first-on (bareAt row) i end h (ne-eqb (getD row i 0) NONE e)) ∙ l .same;
-        }
-
-    pub bare-end : end ≤ i → i ≡ freeIn row from
-    bare-end h = sym (first-end (bareAt row) i end h) ∙ l .same
-
-pub ruleset baring = (bare-all, bare-here, bare-on, bare-end)
+    filled-all : from + 8 ≤ k → k ≡ lowestFree ps from (from + 8)
+    filled-all h = sym (first-end (freeAt ps) k (from + 8) h) ∙ l .same
 
 -- what a beginning finds, after the last turn
 module _ (t r : ℕ) (ps : List Place) (row : List ℕ) (i : ℕ) (out : i ≤ 0) (s : Looked t r ps row i) (c next : ℕ) where
@@ -269,20 +211,19 @@ module _ (t r : ℕ) (ps : List Place) (row : List ℕ) (i : ℕ) (out : i ≤ 0
   pub opening-outside : 2 ≤ c → Outside ≡ opening t r ps c next
   opening-outside h = when-outside t r ps c _ _ sound h
 
-  module _ (inside : c < 2) (k : ℕ) (found : k ≡ freeIn row (c * 8)) where
-    lowest : k ≡ lowestFree ps (lowOf c) (endOf c)
-    lowest = found ∙ free-in-row ps row (c * 8) (omega arith) (all-held t r ps row i out s) (all-small t r ps row i out s)
-
+  module _ (inside : c < 2) (k : ℕ) (l : Filled ps (c * 8) k) where
     pub opening-full : c * 8 + 8 ≤ k → Nothing ≡ opening t r ps c next
-    opening-full h = when-nothing t r ps c _ _ sound inside (omega (arith, lowest, h))
+    opening-full h = when-nothing t r ps c _ _ sound inside (omega (arith, filled-all ps (c * 8) k l h, h))
 
-    pub opening-at : (x : ℕ) → k < c * 8 + 8 → x ≡ serialIn row (c * 8) next → At k x ≡ opening t r ps c next
+    pub opening-at : (b : Bool) (x : ℕ) → b ≡ isOpen (placeAt ps k .mode) → k < c * 8 + 8 → not b ≡ true → x ≡ serialIn row (c * 8) next
+        → At k x ≡ opening t r ps c next
     unfolding serialIn
-    opening-at x h e =
+    opening-at b x told h n e =
+        let lowest = filled-here ps (c * 8) k l b told h n in
         let is = e ∙ serial-in-row ps row (c * 8) (omega arith) (all-held t r ps row i out s) next in
         (λ j. At (lowest j) (is j)) ∙ when-at t r ps c _ _ sound inside (omega (arith, lowest, h))
 
-pub ruleset opened = (opening-outside, opening-full, opening-at)
+pub ruleset opened = (opening-outside, opening-full, opening-at, filled-none, filled-on)
 
 -- whether the serial so many after the next one stands in none of the eight
 abbrev unheld : List ℕ → ℕ → ℕ → ℕ → Bool

@@ -21,6 +21,7 @@ use Rattle.places.specs.declared.Swept.{Swept}
 use Rattle.places.specs.Rows.{placeAt, aged, report, nothing, unswept, swept}
 use Rattle.places.specs.Held.{Weighed}
 use Rattle.places.proofs.Loops.{Looked, looked-sound}
+use Rattle.places.proofs.Marks.{Met}
 
 -- what the test of an age tells
 module _ (a t : ℕ) (b : Bool) (told : b ≡ ltb (a + 1) t) where
@@ -109,6 +110,11 @@ module _ (t r : ℕ) (ps : List Place) (long : length ps ≡ 16) where
               ∙ fill-on (report t r) (replicate 16 nothing) ps (i - 1) nothing free (sym long) (omega arith)
               (getD-replicate 16 (i - 1) nothing nothing (omega arith) ∙ sym silent);
         }
+
+  -- after the last turn of a centre
+  pub swept-all : (now : List Place) (reports : List Report) (marks row : List ℕ) (low i : ℕ) → Met marks row low i → i ≤ low
+      → SweptTo t r ps now reports i → SweptTo t r ps now reports low
+  swept-all now reports marks row low i m h s = let end : i ≡ low = omega (arith, m .under) in subst (SweptTo t r ps now reports) end s
 
   pub all-swept : (row : List ℕ) (now : List Place) (reports : List Report) (i : ℕ) → i ≤ 0 → Looked t r ps row i → SweptTo t r ps now reports i
       → _≡_ {A = Swept} (record { sound = true; places = now; reports = reports }) (swept t r ps)

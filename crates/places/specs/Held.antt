@@ -33,21 +33,9 @@ standsIn row from s = anyFits (standsAt row s) from 8
 unfoldable pub serialIn : List ℕ → ℕ → ℕ → ℕ
 serialIn row from next = upward next (firstFit (λ j. not (standsIn row from (upward next j))) 0 8)
 
--- the lowest of the eight at which no serial stands
-abbrev pub bareAt : List ℕ → ℕ → Bool
-bareAt row k = eqb (getD row k 0) NONE
-
-unfoldable pub freeIn : List ℕ → ℕ → ℕ
-freeIn row from = firstFit (bareAt row) from 8
-
 -- a number for each place, which is 0 exactly where the place is all zero
 pub record Weighed (ps : List Place) (ws : List ℕ) : Type 0 where
   pub tells : (k : ℕ) → k < 16 → eqb (getD ws k 0) 0 ≡ isZero (placeAt ps k)
-
--- a number from which on the places are all free
-pub record Past (ws : List ℕ) (n : ℕ) : Type 0 where
-  pub few : n ≤ 16
-  pub none : (k : ℕ) → n ≤ k → k < 16 → getD ws k 0 ≡ 0
 
 -- a mark for every serial that stands among the eight from one number on, at its last four bits
 pub record Marked (marks row : List ℕ) (low : ℕ) : Type 0 where

@@ -7,7 +7,7 @@ ghost use lib.ListN.{replicate};
 ghost use Rattle.octets.specs.Searches.{firstFit};
 ghost use Rattle.place.specs.Rules.{isOpen};
 ghost use Rattle.places.specs.Rows.{lowOf, ownerOf, opening, reached, upward, nothing, unswept, swept};
-ghost use Rattle.places.specs.Held.{standsAt, standsIn, freeIn, serialIn, Weighed, Past, Marked};
+ghost use Rattle.places.specs.Held.{standsAt, standsIn, serialIn, Weighed, Marked};
 use place::NOTHING;
 use place::Place;
 use place::Reply;
@@ -60,17 +60,8 @@ fn stands_in(row: &[u32; 16], from: usize, serial: u16) -> bool
     hit
 }
 
-// Whether the serial of a place stands among those of its centre.
-fn is_taken(row: &[u32; 16], k: usize, serial: u16) -> bool
-    requires { ⌜ k < 16 ⌝ }
-    ensures { λ r. ⌜ r ≡ standsIn (now (row .entry)) (lowOf (ownerOf k)) serial ⌝ }
-    ensures { λ r. ⌜ serial < 65536 ⌝ }
-{
-    stands_in(row, k / SHARE * SHARE, serial)
-}
-
-// The same where each serial that stands there has left its mark: one without a mark is not looked for.
-fn is_met(marks: &[u8; 16], row: &[u32; 16], k: usize, serial: u16) -> bool
+// Whether the serial of a place stands among those of its centre, each of which has left its mark: one without a mark is not looked for.
+fn is_taken(marks: &[u8; 16], row: &[u32; 16], k: usize, serial: u16) -> bool
     requires { ⌜ k < 16 ⌝ }
     requires { ⌜ Marked (now marks) (now row) (lowOf (ownerOf k)) ⌝ }
     ensures { λ r. ⌜ r ≡ standsIn (now (row .entry)) (lowOf (ownerOf k)) serial ⌝ }
@@ -79,7 +70,7 @@ fn is_met(marks: &[u8; 16], row: &[u32; 16], k: usize, serial: u16) -> bool
     if marks[mark_of(serial)] == 0 {
         return false;
     }
-    is_taken(row, k, serial)
+    stands_in(row, k / SHARE * SHARE, serial)
 }
 
 // Where a serial leaves its mark; serials that follow each other leave theirs apart.
@@ -116,22 +107,6 @@ fn weigh(places: [Place; 16]) -> [u64; 16]
     weights
 }
 
-// Where a pass from the last place on begins: behind it, or before the first where all are free, by a loop with no early way out.
-fn begin(weights: &[u64; 16]) -> usize
-    ensures { λ r. ⌜ Past (now (weights .entry)) r ⌝ }
-{
-    let mut bits: u64 = 0;
-    let mut i: usize = 0;
-    while i < 16 {
-        bits = bits | weights[i];
-        i = i + 1;
-    }
-    if bits == 0 {
-        return 0;
-    }
-    16
-}
-
 // The first place of a centre at which a serial stands, the end of its eight where it stands at none.
 fn place_in(row: &[u32; 16], from: usize, serial: u16) -> usize
     requires { ⌜ from ≤ 8 ⌝ }
@@ -142,22 +117,6 @@ fn place_in(row: &[u32; 16], from: usize, serial: u16) -> usize
     let mut i = from;
     while i < end {
         if row[i] == wanted {
-            return i;
-        }
-        i = i + 1;
-    }
-    i
-}
-
-// The lowest place of a centre at which no serial stands, the end of its eight where there is none.
-fn free_in(row: &[u32; 16], from: usize) -> usize
-    requires { ⌜ from ≤ 8 ⌝ }
-    ensures { λ r. ⌜ r ≡ freeIn (now (row .entry)) from ⌝ }
-{
-    let full = from + SHARE;
-    let mut i = from;
-    while i < full {
-        if row[i] == NONE {
             return i;
         }
         i = i + 1;
@@ -195,7 +154,8 @@ fn serial_in(row: &[u32; 16], from: usize, next: u16) -> u16
     serial
 }
 
-// A centre's lowest free place and the first serial that is not open within it, in places that keep the rules.
+// A centre's lowest free place and the first serial that is not open within it, in places that keep the rules; the pass goes centre by centre, so
+// that the compiler writes its turns out one by one.
 pub fn find_opening(
     places: [Place; 16],
     centre: usize,
@@ -207,35 +167,46 @@ pub fn find_opening(
 {
     let weights = weigh(places);
     let mut row = [NONE; 16];
-    let mut i = begin(&weights);
-    while 0 < i {
-        let k = i - 1;
-        if weights[k] != 0 {
-            if !is_kept(
-                places[k].mode,
-                places[k].resends,
-                places[k].age,
-                timeout,
-                resends,
-            ) {
-                return Search::Broken;
+    let mut end: usize = 16;
+    while 0 < end {
+        let low = end - SHARE;
+        let mut marks: [u8; 16] = [0; 16];
+        let mut i = end;
+        while low < i {
+            let k = i - 1;
+            if weights[k] != 0 {
+                if !is_kept(
+                    places[k].mode,
+                    places[k].resends,
+                    places[k].age,
+                    timeout,
+                    resends,
+                ) {
+                    return Search::Broken;
+                }
+                if is_taken(&marks, &row, k, places[k].serial) {
+                    return Search::Broken;
+                }
+                marks[mark_of(places[k].serial)] = 1;
+                row[k] = places[k].serial as u32;
             }
-            if is_taken(&row, k, places[k].serial) {
-                return Search::Broken;
-            }
-            row[k] = places[k].serial as u32;
+            i = k;
         }
-        i = k;
+        end = low;
     }
     if 2 <= centre {
         return Search::Outside;
     }
     let from = centre * SHARE;
-    let place = free_in(&row, from);
-    if from + SHARE <= place {
-        return Search::Nothing;
+    let full = from + SHARE;
+    let mut place = from;
+    while place < full {
+        if !place::is_open(places[place].mode) {
+            return Search::At(place, serial_in(&row, from, next));
+        }
+        place = place + 1;
     }
-    Search::At(place, serial_in(&row, from, next))
+    Search::Nothing
 }
 
 // The place of a centre that a reply fits, in places that keep the rules, where no serial is open twice within a centre.
@@ -268,7 +239,7 @@ pub fn find_fitting(
                 ) {
                     return Search::Broken;
                 }
-                if is_met(&marks, &row, k, places[k].serial) {
+                if is_taken(&marks, &row, k, places[k].serial) {
                     return Search::Broken;
                 }
                 marks[mark_of(places[k].serial)] = 1;
@@ -300,35 +271,42 @@ pub fn tick_all(places: [Place; 16], timeout: u8, resends: u8) -> Swept
     let mut row = [NONE; 16];
     let mut now = places;
     let mut reports = silence();
-    let mut i: usize = 16;
-    while 0 < i {
-        let k = i - 1;
-        if weights[k] != 0 {
-            let made = places[k].resends;
-            if !is_kept(places[k].mode, made, places[k].age, timeout, resends) {
-                return unswept(places);
+    let mut end: usize = 16;
+    while 0 < end {
+        let low = end - SHARE;
+        let mut marks: [u8; 16] = [0; 16];
+        let mut i = end;
+        while low < i {
+            let k = i - 1;
+            if weights[k] != 0 {
+                let made = places[k].resends;
+                if !is_kept(places[k].mode, made, places[k].age, timeout, resends) {
+                    return unswept(places);
+                }
+                if is_taken(&marks, &row, k, places[k].serial) {
+                    return unswept(places);
+                }
+                marks[mark_of(places[k].serial)] = 1;
+                row[k] = places[k].serial as u32;
+                if is_young(places[k].age, timeout) {
+                    now[k] = Place {
+                        serial: places[k].serial,
+                        mode: places[k].mode,
+                        resends: places[k].resends,
+                        age: older(places[k].age, timeout),
+                    };
+                    reports[k] = told(UNTOLD, places[k].serial);
+                } else {
+                    let p = places[k];
+                    let step = p.denied(resends);
+                    let became = step.place;
+                    now[k] = became;
+                    reports[k] = told(step.outcome as u16, p.serial);
+                }
             }
-            if is_taken(&row, k, places[k].serial) {
-                return unswept(places);
-            }
-            row[k] = places[k].serial as u32;
-            if is_young(places[k].age, timeout) {
-                now[k] = Place {
-                    serial: places[k].serial,
-                    mode: places[k].mode,
-                    resends: places[k].resends,
-                    age: older(places[k].age, timeout),
-                };
-                reports[k] = told(UNTOLD, places[k].serial);
-            } else {
-                let p = places[k];
-                let step = p.denied(resends);
-                let became = step.place;
-                now[k] = became;
-                reports[k] = told(step.outcome as u16, p.serial);
-            }
+            i = k;
         }
-        i = k;
+        end = low;
     }
     Swept {
         sound: true,

@@ -1,38 +1,78 @@
--- `places::tick_all` meets its contract. The loop's invariant: the places from i on keep the rules, the row has what they hold, and they have taken
--- their step and are reported. Assumes nothing.
+-- `places::tick_all` meets its contract. The loops' invariants: the places from i on keep the rules, the row has what they hold, and they have taken
+-- their step and are reported; of a centre's eight, those that were looked at have left their marks. Assumes nothing.
 use borrow.Author.Needs.{needs}
+use mathlib.Core.Path.{_≡_}
+use lib.ListN.{length}
 use Rattle.octets.proofs.Asked.{unasked}
 use Rattle.places.proofs.Loops.{Looked, looked-none, looked-free, looked-open, sweep-breaks, sweep-double}
-use Rattle.places.proofs.Sweeping.{SweptTo, sweeping, is-young, is-old, none-swept, older-swept, denied-swept, zero-swept}
+use Rattle.places.proofs.Marks.{Ends, Met, last-ends, positive, met-none, met-marked, met-free, met-open, met-all, met-ends}
+use Rattle.places.proofs.Sweeping.{SweptTo, sweeping, is-young, is-old, none-swept, older-swept, denied-swept, zero-swept, swept-all}
 use Rattle.places.proofs.tick_all.Statement.{statement}
 use Rattle.places.proofs.tick_all.Tie as tie
 
+abbrev Inv-loop2 : tie.InvT-loop2
+Inv-loop2 timeout resends places weights row₀ now₀ reports₀ end low marks₀ i₀ row now reports marks i =
+    (Looked timeout resends places row i × SweptTo timeout resends places now reports i) × Met marks row low i
+
+abbrev μ-loop2 : tie.MeasureT-loop2
+μ-loop2 timeout resends places weights row₀ now₀ reports₀ end low marks₀ i₀ row now reports marks i = i
+
 abbrev Inv-loop : tie.InvT-loop
-Inv-loop timeout resends places weights row₀ now₀ reports₀ i₀ row now reports i =
-    Looked timeout resends places row i × SweptTo timeout resends places now reports i
+Inv-loop timeout resends places weights row₀ now₀ reports₀ end₀ row now reports end = (Looked timeout resends places row end × SweptTo timeout resends places now reports end) × Ends end
 
 abbrev μ-loop : tie.MeasureT-loop
-μ-loop timeout resends places weights row₀ now₀ reports₀ i₀ row now reports i = i
-
-ruleset started = (looked-none, none-swept)
+μ-loop timeout resends places weights row₀ now₀ reports₀ end₀ row now reports end = end
 
 ruleset passing = (sweep-breaks, sweep-double)
 
--- the places are sixteen, which lies too far back for a search
-loop-again-2 : tie.Need-loop-again-2 Inv-loop μ-loop
-loop-again-2 c =
-    let good = c .before .before .before .before .before .before .before .before .before .before .before .before .before .before .before .before .before .good in
-    (search (looked-open, needs), search (denied-swept, is-old, needs))
+-- the facts lie too far back for a search
+loop2-again : tie.Need-loop2-again Inv-loop2 μ-loop2 Inv-loop μ-loop
+loop2-again c =
+    let single = c .before .before .before .before .before .if3 .left in
+    let taken = c .before .before .before .before .before .before .is-taken .ensures in
+    let pass = c .before .before .before .before .before .before .before .before .before .if2 .left in
+    let kept = c .before .before .before .before .before .before .before .before .before .before .is-kept .ensures in
+    let nonzero = c .before .before .before .before .before .before .before .before .before .before .before .if1 .taken in
+    let above = positive _ _ (c .before .before .before .before .before .before .before .before .before .before .before .before .loop2-test .taken) in
+    let inv = c .before .before .before .before .before .before .before .before .before .before .before .before .before .loop2 .inv in
+    let weighed = c .before .before .before .before .before .before .before .before .before .before .before .before .before .before .before .before .before .weigh .ensures in
+    let good = c .before .before .before .before .before .before .before .before .before .before .before .before .before .before .before .before .before .before .good in
+    let young = c .before .before .before .is-young .ensures in
+    let long : length (c .before .before .before .before .before .before .before .before .before .before .before .before .before .before .before .before .before .before .args .t1) ≡ 16 = search (good, needs) in
+    let looked = looked-open _ _ _ _ _ above (inv .0 .0) _ weighed nonzero _ kept pass _ taken single in
+    let swept = older-swept _ _ _ long _ _ _ above (inv .0 .0 .few) (inv .0 .1) _ kept pass _ _ (is-young _ _ _ young (c .before .before .if4 .taken)) (c .before .older .ensures) (c .told .ensures) in
+    ((looked, swept), search (met-open, needs))
+
+loop2-again-2 : tie.Need-loop2-again-2 Inv-loop2 μ-loop2 Inv-loop μ-loop
+loop2-again-2 c =
+    let single = c .before .before .before .before .before .before .before .before .if3 .left in
+    let taken = c .before .before .before .before .before .before .before .before .before .is-taken .ensures in
+    let pass = c .before .before .before .before .before .before .before .before .before .before .before .before .if2 .left in
+    let kept = c .before .before .before .before .before .before .before .before .before .before .before .before .before .is-kept .ensures in
+    let nonzero = c .before .before .before .before .before .before .before .before .before .before .before .before .before .before .if1 .taken in
+    let above = positive _ _ (c .before .before .before .before .before .before .before .before .before .before .before .before .before .before .before .loop2-test .taken) in
+    let inv = c .before .before .before .before .before .before .before .before .before .before .before .before .before .before .before .before .loop2 .inv in
+    let weighed = c .before .before .before .before .before .before .before .before .before .before .before .before .before .before .before .before .before .before .before .before .weigh .ensures in
+    let good = c .before .before .before .before .before .before .before .before .before .before .before .before .before .before .before .before .before .before .before .before .before .good in
+    let young = c .before .before .before .before .before .before .is-young .ensures in
+    let long : length (c .before .before .before .before .before .before .before .before .before .before .before .before .before .before .before .before .before .before .before .before .before .args .t1) ≡ 16 = search (good, needs) in
+    let looked = looked-open _ _ _ _ _ above (inv .0 .0) _ weighed nonzero _ kept pass _ taken single in
+    let swept = denied-swept _ _ _ long _ _ _ above (inv .0 .0 .few) (inv .0 .1) _ kept pass _ _ (is-old _ _ _ young (c .before .before .before .before .before .if4 .left)) (c .before .before .before .denied .ensures) (c .told2 .ensures) in
+    ((looked, swept), search (met-open, needs))
 
 pub tick-all-spec : {M : Type 1} → statement M
 tick-all-spec =
     tie.close
     (tie.spec
+    Inv-loop2
+    μ-loop2
     Inv-loop
     μ-loop
     unasked
     unasked
-    (λ c. search (started, needs))
+    (λ c. ((search (looked-none, needs), search (none-swept, needs)), search last-ends))
+    (λ c. search needs)
+    (λ c. (search, search (met-none, needs)))
     (λ c. search needs)
     (λ c. search needs)
     (λ c. search needs)
@@ -44,12 +84,16 @@ tick-all-spec =
     (λ c. search needs)
     unasked
     unasked
-    (λ c. search (passing, needs))  -- !is_kept(..)
+    (λ c. search (passing, positive, needs))  -- !is_kept(..)
     (λ c. search needs)
     (λ c. search needs)
-    (λ c κs. search needs)
+    (λ c κs. (search needs, search (met-marked, needs)))
     unasked
-    (λ c. search (passing, needs))  -- is_taken(&row, k, places[k].serial)
+    (λ c. search (passing, positive, needs))  -- is_taken(&marks, &row, k, places[k].serial)
+    (λ c. search needs)
+    (λ c. search needs)
+    unasked
+    (λ c. search needs)
     (λ c. search needs)
     (λ c. search needs)
     (λ c. search needs)
@@ -84,9 +128,11 @@ tick-all-spec =
     (λ c. search needs)
     (λ c. search needs)
     (λ c. search needs)
-    (λ c. (search (looked-open, needs), search (older-swept, is-young, needs)))  -- is_young(places[k].age, timeout)
+    loop2-again  -- is_young(places[k].age, timeout)
     (λ c. search needs)
-    loop-again-2
+    loop2-again-2
     (λ c. search needs)
-    (λ c. (search (looked-free, needs), search (zero-swept, needs)))  -- weights[k] != 0
+    (λ c. ((search (looked-free, positive, needs), search (zero-swept, positive, needs)), search (met-free, needs)))  -- weights[k] != 0
+    (λ c. search needs)
+    (λ c. ((search (met-all, needs), search (swept-all, needs)), search (met-ends, needs)))
     (λ c. search (sweeping, needs)))
