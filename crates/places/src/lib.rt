@@ -175,20 +175,16 @@ pub fn find_opening(
         while low < i {
             let k = i - 1;
             if weights[k] != 0 {
-                if !is_kept(
-                    places[k].mode,
-                    places[k].resends,
-                    places[k].age,
-                    timeout,
-                    resends,
-                ) {
+                let mode = places[k].mode;
+                if !is_kept(mode, places[k].resends, places[k].age, timeout, resends) {
                     return Search::Broken;
                 }
-                if is_taken(&marks, &row, k, places[k].serial) {
+                let own = places[k].serial;
+                if is_taken(&marks, &row, k, own) {
                     return Search::Broken;
                 }
-                marks[mark_of(places[k].serial)] = 1;
-                row[k] = places[k].serial as u32;
+                marks[mark_of(own)] = 1;
+                row[k] = own as u32;
             }
             i = k;
         }
@@ -230,20 +226,16 @@ pub fn find_fitting(
         while low < i {
             let k = i - 1;
             if weights[k] != 0 {
-                if !is_kept(
-                    places[k].mode,
-                    places[k].resends,
-                    places[k].age,
-                    timeout,
-                    resends,
-                ) {
+                let mode = places[k].mode;
+                if !is_kept(mode, places[k].resends, places[k].age, timeout, resends) {
                     return Search::Broken;
                 }
-                if is_taken(&marks, &row, k, places[k].serial) {
+                let own = places[k].serial;
+                if is_taken(&marks, &row, k, own) {
                     return Search::Broken;
                 }
-                marks[mark_of(places[k].serial)] = 1;
-                row[k] = places[k].serial as u32;
+                marks[mark_of(own)] = 1;
+                row[k] = own as u32;
             }
             i = k;
         }
@@ -279,29 +271,32 @@ pub fn tick_all(places: [Place; 16], timeout: u8, resends: u8) -> Swept
         while low < i {
             let k = i - 1;
             if weights[k] != 0 {
+                let mode = places[k].mode;
                 let made = places[k].resends;
-                if !is_kept(places[k].mode, made, places[k].age, timeout, resends) {
+                let age = places[k].age;
+                if !is_kept(mode, made, age, timeout, resends) {
                     return unswept(places);
                 }
-                if is_taken(&marks, &row, k, places[k].serial) {
+                let serial = places[k].serial;
+                if is_taken(&marks, &row, k, serial) {
                     return unswept(places);
                 }
-                marks[mark_of(places[k].serial)] = 1;
-                row[k] = places[k].serial as u32;
-                if is_young(places[k].age, timeout) {
+                marks[mark_of(serial)] = 1;
+                row[k] = serial as u32;
+                if is_young(age, timeout) {
                     now[k] = Place {
-                        serial: places[k].serial,
-                        mode: places[k].mode,
-                        resends: places[k].resends,
-                        age: older(places[k].age, timeout),
+                        serial,
+                        mode,
+                        resends: made,
+                        age: older(age, timeout),
                     };
-                    reports[k] = told(UNTOLD, places[k].serial);
+                    reports[k] = told(UNTOLD, serial);
                 } else {
                     let p = places[k];
                     let step = p.denied(resends);
                     let became = step.place;
                     now[k] = became;
-                    reports[k] = told(step.outcome as u16, p.serial);
+                    reports[k] = told(step.outcome as u16, serial);
                 }
             }
             i = k;

@@ -47,12 +47,8 @@ find-fitting-spec =
     (λ c. search needs)
     (λ c. search needs)
     (λ c κs. (search needs, search (met-marked, needs)))
-    (λ c. search (looking, positive, needs))  -- is_met(&marks, &row, k, places[k].serial)
-    (λ c. search needs)
-    (λ c. search needs)
+    (λ c. search (looking, positive, needs))  -- is_taken(&marks, &row, k, own)
     unasked
-    (λ c. search needs)
-    (λ c. search needs)
     (λ c. search needs)
     (λ c. search needs)
     (λ c. search needs)
@@ -71,5 +67,5 @@ find-fitting-spec =
     (λ c. search needs)
     (λ c. search needs)
     unasked
-    (λ c. search (reaching, needs))  -- !place::awaits(p.mode, reply)
+    (λ c. search (reaching, needs))  -- !place::awaits(places[at].mode, reply)
     (λ c. search (reaching, needs)))

@@ -54,12 +54,8 @@ find-opening-spec =
     (λ c. search needs)
     (λ c. search needs)
     (λ c κs. (search needs, search (met-marked, needs)))
-    (λ c. search (looking, positive, needs))  -- is_taken(&marks, &row, k, places[k].serial)
-    (λ c. search needs)
-    (λ c. search needs)
+    (λ c. search (looking, positive, needs))  -- is_taken(&marks, &row, k, own)
     unasked
-    (λ c. search needs)
-    (λ c. search needs)
     (λ c. search needs)
     (λ c. search needs)
     (λ c. search needs)

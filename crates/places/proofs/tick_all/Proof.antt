@@ -25,39 +25,44 @@ abbrev μ-loop : tie.MeasureT-loop
 
 ruleset passing = (sweep-breaks, sweep-double)
 
--- the facts lie too far back for a search
+-- the facts lie too far back for a search, so each place on the way is named
 loop2-again : tie.Need-loop2-again Inv-loop2 μ-loop2 Inv-loop μ-loop
 loop2-again c =
-    let single = c .before .before .before .before .before .if3 .left in
-    let taken = c .before .before .before .before .before .before .is-taken .ensures in
-    let pass = c .before .before .before .before .before .before .before .before .before .if2 .left in
-    let kept = c .before .before .before .before .before .before .before .before .before .before .is-kept .ensures in
-    let nonzero = c .before .before .before .before .before .before .before .before .before .before .before .if1 .taken in
-    let above = positive _ _ (c .before .before .before .before .before .before .before .before .before .before .before .before .loop2-test .taken) in
-    let inv = c .before .before .before .before .before .before .before .before .before .before .before .before .before .loop2 .inv in
-    let weighed = c .before .before .before .before .before .before .before .before .before .before .before .before .before .before .before .before .before .weigh .ensures in
-    let good = c .before .before .before .before .before .before .before .before .before .before .before .before .before .before .before .before .before .before .good in
-    let young = c .before .before .before .is-young .ensures in
-    let long : length (c .before .before .before .before .before .before .before .before .before .before .before .before .before .before .before .before .before .before .args .t1) ≡ 16 = search (good, needs) in
-    let looked = looked-open _ _ _ _ _ above (inv .0 .0) _ weighed nonzero _ kept pass _ taken single in
-    let swept = older-swept _ _ _ long _ _ _ above (inv .0 .0 .few) (inv .0 .1) _ kept pass _ _ (is-young _ _ _ young (c .before .before .if4 .taken)) (c .before .older .ensures) (c .told .ensures) in
+    let young = c .before .before .before in  -- is_young(places[k].age, timeout)
+    let test = young .before .before .before in  -- is_taken(&marks, &row, k, places[k].serial)
+    let kept = test .before .before .before .before in  -- is_kept(..)
+    let turn = kept .before .before .before in
+    let weighed = turn .before .before .before .before in
+    let above = positive _ _ (kept .before .before .loop2-test .taken) in
+    let inv = turn .loop2 .inv in
+    let good = weighed .before .good in
+    let long : length (weighed .before .args .t1) ≡ 16 = search (good, needs) in
+    let looked =
+    looked-open _ _ _ _ _ above (inv .0 .0) _ (weighed .weigh .ensures) (kept .before .if1 .taken) _ (kept .is-kept .ensures) (test .before .before .before .if2 .left) _
+    (test .is-taken .ensures) (young .before .before .if3 .left) in
+    let swept =
+    older-swept _ _ _ long _ _ _ above (inv .0 .0 .few) (inv .0 .1) _ (kept .is-kept .ensures) (test .before .before .before .if2 .left) _ _
+    (is-young _ _ _ (young .is-young .ensures) (c .before .before .if4 .taken)) (c .before .older .ensures) (c .told .ensures) in
     ((looked, swept), search (met-open, needs))
 
 loop2-again-2 : tie.Need-loop2-again-2 Inv-loop2 μ-loop2 Inv-loop μ-loop
 loop2-again-2 c =
-    let single = c .before .before .before .before .before .before .before .before .if3 .left in
-    let taken = c .before .before .before .before .before .before .before .before .before .is-taken .ensures in
-    let pass = c .before .before .before .before .before .before .before .before .before .before .before .before .if2 .left in
-    let kept = c .before .before .before .before .before .before .before .before .before .before .before .before .before .is-kept .ensures in
-    let nonzero = c .before .before .before .before .before .before .before .before .before .before .before .before .before .before .if1 .taken in
-    let above = positive _ _ (c .before .before .before .before .before .before .before .before .before .before .before .before .before .before .before .loop2-test .taken) in
-    let inv = c .before .before .before .before .before .before .before .before .before .before .before .before .before .before .before .before .loop2 .inv in
-    let weighed = c .before .before .before .before .before .before .before .before .before .before .before .before .before .before .before .before .before .before .before .before .weigh .ensures in
-    let good = c .before .before .before .before .before .before .before .before .before .before .before .before .before .before .before .before .before .before .before .before .before .good in
-    let young = c .before .before .before .before .before .before .is-young .ensures in
-    let long : length (c .before .before .before .before .before .before .before .before .before .before .before .before .before .before .before .before .before .before .before .before .before .args .t1) ≡ 16 = search (good, needs) in
-    let looked = looked-open _ _ _ _ _ above (inv .0 .0) _ weighed nonzero _ kept pass _ taken single in
-    let swept = denied-swept _ _ _ long _ _ _ above (inv .0 .0 .few) (inv .0 .1) _ kept pass _ _ (is-old _ _ _ young (c .before .before .before .before .before .if4 .left)) (c .before .before .before .denied .ensures) (c .told2 .ensures) in
+    let young = c .before .before .before .before .before .before in  -- is_young(places[k].age, timeout)
+    let test = young .before .before .before in  -- is_taken(&marks, &row, k, places[k].serial)
+    let kept = test .before .before .before .before in  -- is_kept(..)
+    let turn = kept .before .before .before in
+    let weighed = turn .before .before .before .before in
+    let above = positive _ _ (kept .before .before .loop2-test .taken) in
+    let inv = turn .loop2 .inv in
+    let good = weighed .before .good in
+    let long : length (weighed .before .args .t1) ≡ 16 = search (good, needs) in
+    let looked =
+    looked-open _ _ _ _ _ above (inv .0 .0) _ (weighed .weigh .ensures) (kept .before .if1 .taken) _ (kept .is-kept .ensures) (test .before .before .before .if2 .left) _
+    (test .is-taken .ensures) (young .before .before .if3 .left) in
+    let swept =
+    denied-swept _ _ _ long _ _ _ above (inv .0 .0 .few) (inv .0 .1) _ (kept .is-kept .ensures) (test .before .before .before .if2 .left) _ _
+    (is-old _ _ _ (young .is-young .ensures) (c .before .before .before .before .before .if4 .left)) (c .before .before .before .denied .ensures)
+    (c .told2 .ensures) in
     ((looked, swept), search (met-open, needs))
 
 pub tick-all-spec : {M : Type 1} → statement M
@@ -89,32 +94,16 @@ tick-all-spec =
     (λ c. search needs)
     (λ c κs. (search needs, search (met-marked, needs)))
     unasked
-    (λ c. search (passing, positive, needs))  -- is_taken(&marks, &row, k, places[k].serial)
-    (λ c. search needs)
-    (λ c. search needs)
+    (λ c. search (passing, positive, needs))  -- is_taken(&marks, &row, k, serial)
     unasked
     (λ c. search needs)
     (λ c. search needs)
     (λ c. search needs)
     (λ c. search needs)
-    (λ c. search needs)
-    (λ c. search needs)
-    (λ c. search needs)
-    (λ c. search needs)
     unasked
-    (λ c. search needs)
-    (λ c. search needs)
-    (λ c. search needs)
-    (λ c. search needs)
-    (λ c. search needs)
-    (λ c. search needs)
-    (λ c. search needs)
-    (λ c. search needs)
     (λ c κs. is-young _ _ _ (c .before .is-young .ensures) (c .if4 .taken))
     (λ c. search needs)
     (λ c. search needs)
-    (λ c. search needs)
-    (λ c. search needs)
     unasked
     (λ c. search needs)
     (λ c. search needs)
@@ -128,7 +117,7 @@ tick-all-spec =
     (λ c. search needs)
     (λ c. search needs)
     (λ c. search needs)
-    loop2-again  -- is_young(places[k].age, timeout)
+    loop2-again  -- is_young(age, timeout)
     (λ c. search needs)
     loop2-again-2
     (λ c. search needs)
