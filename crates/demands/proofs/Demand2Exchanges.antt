@@ -30,7 +30,8 @@ use Rattle.exchange.proofs.Draft.{the-row}
 use Rattle.exchange.proofs.Answers.{made-refused, made-good}
 use Rattle.exchange.proofs.Before.{others-refused, same-verdict, same-output, same-written, same-unfound, refused-differs}
 use Rattle.exchange.proofs.Begins.{orderTests, in-one-order, begun-verdict}
-use Rattle.exchange.proofs.Changes.{refused-same, taken-so, begun-found, given-unopened, given-first, given-next, begun-named, begun-low, begun-high, taken-free, taken-lowest, begin-others, begin-other-centre}
+use Rattle.exchange.proofs.Changes.{refused-same, taken-so, begun-found, given-unopened, given-first, given-next}
+use Rattle.exchange.proofs.Changes.{begun-named, begun-low, begun-high, taken-free, taken-lowest, begin-others, begin-other-centre}
 use Rattle.exchange.proofs.Changes.{reply-rest, tick-rest, tick-tells, settings-made, address-made}
 use Rattle.exchange.proofs.Denials.{resent-when, failed-when, resent-place, failed-place, tick-silent}
 use Rattle.exchange.proofs.Histories.{accounted}

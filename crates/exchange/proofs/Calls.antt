@@ -39,7 +39,8 @@ use Rattle.exchange.specs.declared.Reached.{Reached}
 use Rattle.exchange.specs.declared.Replied.{Replied}
 use Rattle.exchange.specs.declared.Ticked.{Ticked}
 use Rattle.exchange.specs.Begins.{headedBy, modeOf, begunVerdict, unbegun, begun, begunOutput}
-use Rattle.exchange.specs.Table.{centreAt, addressAt, nextAt, centreOf, settled, legal, blank, made, unfound, found, entered, placed, fittingOf, stepped, untold, steppedBy, answered, reachOf, unreached, unticked, ticking}
+use Rattle.exchange.specs.Table.{centreAt, addressAt, nextAt, centreOf, settled, legal, blank, made, unfound, found}
+use Rattle.exchange.specs.Table.{entered, placed, fittingOf, stepped, untold, steppedBy, answered, reachOf, unreached, unticked, ticking}
 use Rattle.exchange.proofs.Answers.{made-refused, made-good, found-state, found-outside, found-full, found-good, Inside, found-inside}
 use Rattle.exchange.proofs.Answers.{answered-state, answered-outside, answered-stray, answered-good, answered-ways, ticking-state, ticking-by, after-tick}
 use Rattle.exchange.proofs.Begins.{draft-judged, find-decides, draft-decides, taken-by, begun-refused, output-kept, opening-at, begun-good, output-written, begun-few}

@@ -24,7 +24,8 @@ use Rattle.exchange.specs.declared.Replied.{Replied}
 use Rattle.exchange.specs.declared.Ticked.{Ticked}
 use Rattle.places.specs.Rows.{placeAt, freeAt, lowestFree, isOpenAs, upward, unopened, serialFor, lowOf, endOf, ownerOf, report, nothing}
 use Rattle.exchange.specs.Begins.{modeOf, begunVerdict, unbegun, begunOutput}
-use Rattle.exchange.specs.Table.{centre, centreAt, addressAt, nextAt, centreOf, legal, blank, made, lowestOf, serialOf, found, placed, entered, fittingOf, replyTests, stepped, untold, answered, unticked, ticking}
+use Rattle.exchange.specs.Table.{centre, centreAt, addressAt, nextAt, centreOf, legal, blank, made, lowestOf, serialOf}
+use Rattle.exchange.specs.Table.{found, placed, entered, fittingOf, replyTests, stepped, untold, answered, unticked, ticking}
 use Rattle.exchange.specs.Calls.{Asked, begunBy, Call, begin, reply, tick, verdictOf, after, run, Sound}
 use Rattle.places.proofs.Serials.{serial-unopened, serial-first}
 use Rattle.places.proofs.Rules.{unchanged}

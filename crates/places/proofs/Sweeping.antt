@@ -39,6 +39,29 @@ pub record SweptTo (t r : ℕ) (ps now : List Place) (reports : List Report) (i 
   pub stepped : now ≡ filledFrom (aged t r) ps ps i
   pub told : reports ≡ filledFrom (report t r) (replicate 16 nothing) ps i
 
+-- the place before i is open, and a step that it takes is one more
+pub record Tested (t r : ℕ) (ps now : List Place) (reports : List Report) (i : ℕ) : Type 0 where
+  pub is-open : true ≡ isOpen (placeAt ps (i - 1) .mode)
+  pub one-swept : (step : Step) → step ≡ ticked t r (placeAt ps (i - 1))
+      → SweptTo t r ps (set now (i - 1) (step .place)) (set reports (i - 1) (record { outcome = step .outcome; serial = placeAt ps (i - 1) .serial })) (i - 1)
+
+module _ (t r : ℕ) (ps now : List Place) (reports : List Report) (i : ℕ) (z : Tested t r ps now reports i) where
+  abbrev own : Place
+  own = placeAt ps (i - 1)
+
+  pub older-swept : (a : ℕ) (x : Report) → own .age + 1 < t → a ≡ own .age + 1 → x ≡ record { outcome = NOTHING; serial = own .serial }
+      → SweptTo t r ps (set now (i - 1) (counted (own .resends) a own)) (set reports (i - 1) x) (i - 1)
+  older-swept a x h e f =
+      let s = z .one-swept (becomes (oneOlder own) NOTHING) (older own true (z .is-open) t r refl h) in
+      subst⁻¹ (λ (y : ℕ). SweptTo t r ps (set now (i - 1) (counted (own .resends) y own)) (set reports (i - 1) x) (i - 1)) e
+      (subst⁻¹ (λ (y : Report). SweptTo t r ps (set now (i - 1) (oneOlder own)) (set reports (i - 1) y) (i - 1)) f s)
+
+  pub denied-swept : (step : Step) (x : Report) → t ≤ own .age + 1 → step ≡ denied r own → x ≡ record { outcome = step .outcome; serial = own .serial }
+      → SweptTo t r ps (set now (i - 1) (step .place)) (set reports (i - 1) x) (i - 1)
+  denied-swept step x h e f =
+      subst⁻¹ (λ (y : Report). SweptTo t r ps (set now (i - 1) (step .place)) (set reports (i - 1) y) (i - 1)) f
+      (z .one-swept step (run-out own true (z .is-open) t r step refl h e))
+
 module _ (t r : ℕ) (ps : List Place) (long : length ps ≡ 16) where
   pub none-swept : (reports : List Report) → reports ≡ replicate 16 nothing → SweptTo t r ps ps reports 16
   none-swept reports e =
@@ -69,22 +92,12 @@ module _ (t r : ℕ) (ps : List Place) (long : length ps ≡ 16) where
         }
 
     -- k is whether it is open and keeps the rules for a place
-    module _ (k : Bool) (open-kept : k ≡ isOpen (p .mode) && (ltb (p .age) t && leb (p .resends) r)) (n : not k ≡ false) where
-      is-open : true ≡ isOpen (p .mode)
-      is-open = sym (and-eq-true-iff (isOpen (p .mode)) (ltb (p .age) t && leb (p .resends) r) .0 (on open-kept n) .0)
-
-      pub older-swept : (a : ℕ) (x : Report) → p .age + 1 < t → a ≡ p .age + 1 → x ≡ record { outcome = NOTHING; serial = p .serial }
-          → SweptTo t r ps (set now (i - 1) (counted (p .resends) a p)) (set reports (i - 1) x) (i - 1)
-      older-swept a x h e f =
-          let s = one-swept (becomes (oneOlder p) NOTHING) (older p true is-open t r refl h) in
-          subst⁻¹ (λ (y : ℕ). SweptTo t r ps (set now (i - 1) (counted (p .resends) y p)) (set reports (i - 1) x) (i - 1)) e
-          (subst⁻¹ (λ (y : Report). SweptTo t r ps (set now (i - 1) (oneOlder p)) (set reports (i - 1) y) (i - 1)) f s)
-
-      pub denied-swept : (step : Step) (x : Report) → t ≤ p .age + 1 → step ≡ denied r p → x ≡ record { outcome = step .outcome; serial = p .serial }
-          → SweptTo t r ps (set now (i - 1) (step .place)) (set reports (i - 1) x) (i - 1)
-      denied-swept step x h e f =
-          subst⁻¹ (λ (y : Report). SweptTo t r ps (set now (i - 1) (step .place)) (set reports (i - 1) y) (i - 1)) f
-          (one-swept step (run-out p true is-open t r step refl h e))
+    pub tested-open : (k : Bool) → k ≡ isOpen (p .mode) && (ltb (p .age) t && leb (p .resends) r) → not k ≡ false → Tested t r ps now reports i
+    tested-open k open-kept n =
+        record {
+          is-open = sym (and-eq-true-iff (isOpen (p .mode)) (ltb (p .age) t && leb (p .resends) r) .0 (on open-kept n) .0);
+          one-swept = one-swept;
+        }
 
     unserial : isZero p ≡ true → p .serial ≡ 0
     unfolding isZero
@@ -125,4 +138,4 @@ module _ (t r : ℕ) (ps : List Place) (long : length ps ≡ 16) where
       let b = s .told ∙ ap (filledFrom (report t r) (replicate 16 nothing) ps) end ∙ fill-all (report t r) (replicate 16 nothing) ps in
       (λ j. record { sound = true; places = a j; reports = b j }) ∙ simp (looked-sound t r ps row i h l)
 
-pub ruleset sweeping = (none-swept, older-swept, denied-swept, zero-swept, all-swept)
+pub ruleset sweeping = (none-swept, zero-swept, all-swept)
