@@ -266,7 +266,8 @@ impl Exchanges {
         }
     }
 
-    // The step of the exchange that a reply fits, of the centre that has its source address; STRAY where it fits none.
+    // The step of the exchange that a reply fits, of the centre that has its source address, STRAY where it fits none; a denial asks by itself, since a
+    // search with two callers stays a function of its own.
     pub fn reply(self, source: Address, serial: u16, reply: Reply) -> Replied
         ensures { λ r. ⌜ r ≡ answered self (source .bytes) serial reply ⌝ }
     {
