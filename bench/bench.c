@@ -40,6 +40,7 @@ int same_part(trawnosz_found a, trawnosz_found b)
 }
 
 const trawnosz_label sample_label = {0, 30, 8, 15, 6, 24};
+const trawnosz_label no_time = {0, 0, 0, 0, 0, 0};
 const trawnosz_header sample_header = {5, 0, {0, 30, 8, 15, 6, 24}, {1}, {2}, TRAWNOSZ_COMMAND_CONFIRM};
 
 size_t make_unit(uint8_t *unit, uint8_t type, uint8_t n, size_t size)
@@ -55,6 +56,18 @@ size_t make_unit(uint8_t *unit, uint8_t type, uint8_t n, size_t size)
                                   .low = 2, .high = 255, .analogue = 3, .operation = 1, .operator_ = 7, .state = 1,
                                   .main = 1, .minor = 2, .label = sample_label};
         agree(!twin_write_object(unit, length, i, &fields, text, described ? sizeof text : 0).number);
+    }
+    return length;
+}
+
+size_t without_time(uint8_t *unit, size_t length)
+{
+    for (size_t i = 0; i < unit[1]; i++) {
+        trawnosz_fields fields;
+        uint8_t shown;
+        agree(!twin_read_object(unit, length, i, &fields, &shown).number);
+        fields.label = no_time;
+        agree(!twin_write_object(unit, length, i, &fields, NULL, 0).number);
     }
     return length;
 }

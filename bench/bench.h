@@ -26,11 +26,14 @@ void agree(int same);
 int same_verdict(trawnosz_verdict a, trawnosz_verdict b);
 int same_part(trawnosz_found a, trawnosz_found b);
 
-extern const trawnosz_label sample_label;
+extern const trawnosz_label sample_label, no_time;
 extern const trawnosz_header sample_header;
 
 /* Writes n objects of a type and of the given size behind the type and n; the unit's length. */
 size_t make_unit(uint8_t *unit, uint8_t type, uint8_t n, size_t size);
+
+/* Takes the time out of each object of a unit of a type without descriptions; the unit's length. */
+size_t without_time(uint8_t *unit, size_t length);
 
 /* Writes a packet around the unit that stands in it, good or not; its length. */
 size_t make_packet(uint8_t *packet, uint8_t command, size_t unit);

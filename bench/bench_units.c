@@ -48,9 +48,11 @@ static void read(const char *name, size_t length, size_t object)
     trawnosz_typed ours;
     trawnosz_verdict plain;
     trawnosz_fields fields;
+    uint8_t shown;
     MEASURE(REGION(number, OURS), ours = trawnosz_read_object(unit, length, object));
-    MEASURE(REGION(number, PLAIN), plain = twin_read_object(unit, length, object, &fields));
-    agree(same_verdict(ours.verdict, plain) && memcmp(&ours.fields, &fields, sizeof fields) == 0);
+    MEASURE(REGION(number, PLAIN), plain = twin_read_object(unit, length, object, &fields, &shown));
+    agree(same_verdict(ours.verdict, plain) && ours.shown == shown);
+    agree(memcmp(&ours.fields, &fields, sizeof fields) == 0);
 }
 
 static size_t text_unit(size_t length)
@@ -63,9 +65,11 @@ static size_t text_unit(size_t length)
 static void bench_judge(void)
 {
     judge("judge_unit: 9 bytes, type 21", make_unit(unit, 21, 1, 7));
+    judge("judge_unit: 9 bytes, type 21, no time", without_time(unit, make_unit(unit, 21, 1, 7)));
     judge("judge_unit: 252 bytes, 25 of type 1", make_unit(unit, 1, 25, 10));
     judge("judge_unit: 512 bytes, 51 of type 1", make_unit(unit, 1, 51, 10));
     judge("judge_unit: 1,022 bytes, 102 of type 1", make_unit(unit, 1, 102, 10));
+    judge("judge_unit: 1,022 bytes, 102 of type 1, no time", without_time(unit, make_unit(unit, 1, 102, 10)));
     judge("judge_unit: 1,018 bytes, 127 of type 24", make_unit(unit, 24, 127, 8));
     judge("judge_unit: 990 bytes, 26 of type 7", make_unit(unit, 7, 26, 38));
     judge("judge_unit: 258 bytes, type 26", text_unit(255));
@@ -82,6 +86,7 @@ void bench_units(void)
     object("find_object: first of 22 of type 2", make_unit(unit, 2, 22, 46), 0);
     object("find_object: last of 22 of type 2", make_unit(unit, 2, 22, 46), 21);
     read("read_object: type 21", make_unit(unit, 21, 1, 7), 0);
+    read("read_object: type 21, no time", without_time(unit, make_unit(unit, 21, 1, 7)), 0);
     read("read_object: one of type 2", make_unit(unit, 2, 1, 46), 0);
     read("read_object: first of 22 of type 2", make_unit(unit, 2, 22, 46), 0);
     read("read_object: last of 22 of type 2", make_unit(unit, 2, 22, 46), 21);

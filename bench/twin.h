@@ -23,7 +23,8 @@ trawnosz_served tuned_receive(twin_receiver *receiver, const uint8_t *piece, siz
                               size_t out_length);
 
 trawnosz_verdict twin_judge_packet(const uint8_t *packet, size_t packet_length);
-trawnosz_verdict twin_read_packet(const uint8_t *packet, size_t packet_length, trawnosz_header *header, size_t *length);
+trawnosz_verdict twin_read_packet(const uint8_t *packet, size_t packet_length, trawnosz_header *header, uint8_t *shown,
+                                  size_t *length);
 trawnosz_found twin_find_unit(const uint8_t *packet, size_t packet_length);
 trawnosz_verdict twin_write_packet(uint8_t *out, size_t out_length, const trawnosz_header *header, size_t length);
 trawnosz_verdict twin_write_packet_object(uint8_t *out, size_t out_length, size_t length, size_t number,
@@ -33,8 +34,11 @@ trawnosz_verdict twin_write_packet_text(uint8_t *out, size_t out_length, const u
 trawnosz_answer twin_answer_to(const uint8_t *packet, size_t packet_length, const trawnosz_label *label, uint8_t *out,
                                size_t out_length);
 
-/* 1 where six bytes are no time label. */
+/* 1 where six bytes are neither a time nor six zeros, which mean that there is no time. */
 int twin_label_bad(const uint8_t *label);
+
+/* What a label is that was judged good: a time or no time. */
+uint8_t twin_label_shown(const uint8_t *label);
 
 /* An object's bytes without its description, and its fields; `kind` and the size are judged before. */
 void twin_get_fields(trawnosz_fields *fields, const uint8_t *object);
@@ -44,7 +48,8 @@ trawnosz_verdict twin_judge_unit(const uint8_t *unit, size_t unit_length);
 trawnosz_verdict twin_judge_unit_under(const uint8_t *unit, size_t unit_length, uint8_t command);
 size_t twin_unit_length(uint8_t type, size_t n);
 trawnosz_found twin_find_object(const uint8_t *unit, size_t unit_length, size_t number);
-trawnosz_verdict twin_read_object(const uint8_t *unit, size_t unit_length, size_t number, trawnosz_fields *fields);
+trawnosz_verdict twin_read_object(const uint8_t *unit, size_t unit_length, size_t number, trawnosz_fields *fields,
+                                  uint8_t *shown);
 trawnosz_found twin_find_description(const uint8_t *unit, size_t unit_length, size_t number);
 trawnosz_verdict twin_write_object(uint8_t *unit, size_t unit_length, size_t number, const trawnosz_fields *fields,
                                    const uint8_t *description, size_t description_length);

@@ -64,10 +64,12 @@ trawnosz_verdict twin_judge_packet(const uint8_t *packet, size_t packet_length)
     return number ? refused(number) : judge_rest(packet);
 }
 
-trawnosz_verdict twin_read_packet(const uint8_t *packet, size_t packet_length, trawnosz_header *header, size_t *length)
+trawnosz_verdict twin_read_packet(const uint8_t *packet, size_t packet_length, trawnosz_header *header, uint8_t *shown,
+                                  size_t *length)
 {
     trawnosz_verdict verdict = twin_judge_packet(packet, packet_length);
     memset(header, 0, sizeof *header);
+    *shown = TRAWNOSZ_SHOWN_NOTHING;
     *length = 0;
     if (verdict.number)
         return verdict;
@@ -77,6 +79,7 @@ trawnosz_verdict twin_read_packet(const uint8_t *packet, size_t packet_length, t
     memcpy(header->source, packet + 12, 6);
     memcpy(header->destination, packet + 18, 6);
     header->command = packet[26];
+    *shown = twin_label_shown(packet + 6);
     *length = length_of(packet);
     return verdict;
 }

@@ -3,6 +3,8 @@
  * sends events on to two centres, under serials of its own for each, sends them again as the exchange table says, and tells
  * a line for each thing that happened. It begins with an empty exchange table: what was open before it was started is
  * forgotten. In box.hex the second centre is silent: what was sent to it fails, and the first's exchanges go on as ever.
+ * A panel without a clock has six zeros for a time: the box says so, sends them on as they came and never takes them for its
+ * own clock.
  */
 #include <stdio.h>
 #include <string.h>
@@ -53,9 +55,17 @@ static void print_bytes(const char *what, const uint8_t *bytes, size_t n)
     putchar('\n');
 }
 
-/* Tells the part that an object of type 2 speaks of. */
-static void print_part(trawnosz_fields fields)
+/* Ends the line on what was read from a sender without a clock, so that nobody looks for its time. */
+static void print_no_time(uint8_t shown)
 {
+    if (shown == TRAWNOSZ_SHOWN_NO_TIME)
+        fputs(", no time", stdout);
+}
+
+/* Tells the part that an object of type 2 speaks of. */
+static void print_part(trawnosz_typed object)
+{
+    trawnosz_fields fields = object.fields;
     trawnosz_key key = {fields.system, fields.address, fields.part, fields.part_address};
     trawnosz_found found = trawnosz_find_part((const uint8_t *)devices, sizeof devices - 1, key);
     printf("  state %02X %02X of part %u.%u.%u: ", fields.low, fields.high, key.system, key.address, key.part);
@@ -65,13 +75,14 @@ static void print_part(trawnosz_fields fields)
         print_name(found.verdict.number);
     else
         printf("%.*s", (int)(found.to - found.from), devices + found.from);
+    print_no_time(object.shown);
     putchar('\n');
 }
 
 static void print_parts(const uint8_t *unit, size_t length)
 {
     for (size_t i = 0; i < unit[1]; i++)
-        print_part(trawnosz_read_object(unit, length, i).fields);
+        print_part(trawnosz_read_object(unit, length, i));
 }
 
 /* Sends a panel's unit on to a centre; the packet is kept, to be sent again, at the place that only the call tells. */
@@ -141,6 +152,19 @@ static void on_outcome(const box *b, size_t exchange_place, uint8_t outcome)
         print_bytes("sent", kept->bytes, kept->length);
 }
 
+/* Sets the clock by a control's object only where its label is a time: six zeros are good too, but no time to set it to. */
+static void set_clock(box *b, const uint8_t *unit, size_t length)
+{
+    trawnosz_typed object = trawnosz_read_object(unit, length, 0);
+    if (object.shown == TRAWNOSZ_SHOWN_TIME) {
+        b->clock = object.fields.label;
+        fputs("  clock set to", stdout);
+    } else {
+        fputs("  no time given, clock stays at", stdout);
+    }
+    printf(" %02u:%02u:%02u\n", b->clock.hour, b->clock.minute, b->clock.second);
+}
+
 /* What a good packet asks for that is no reply. */
 static void act(box *b, const uint8_t *packet, size_t length, const trawnosz_header *header)
 {
@@ -149,8 +173,7 @@ static void act(box *b, const uint8_t *packet, size_t length, const trawnosz_hea
     size_t unit_length = found.to - found.from;
     switch (header->command) {
     case TRAWNOSZ_COMMAND_CONTROL:
-        b->clock = trawnosz_read_object(unit, unit_length, 0).fields.label;
-        printf("  clock set to %02u:%02u:%02u\n", b->clock.hour, b->clock.minute, b->clock.second);
+        set_clock(b, unit, unit_length);
         break;
     case TRAWNOSZ_COMMAND_SEND:
         if (unit[0] == TRAWNOSZ_TYPE_PART_STATE)
@@ -181,6 +204,7 @@ static void on_packet(box *b, const uint8_t *packet, const trawnosz_served *serv
     trawnosz_opened opened = trawnosz_read_packet(packet, served->length);
     printf("%zu skipped, packet of %zu bytes, command %u: ", served->skipped, served->length, packet[26]);
     print_name(opened.verdict.number);
+    print_no_time(opened.shown);
     putchar('\n');
     trawnosz_answer due = trawnosz_answer_to(packet, served->length, b->clock, out, sizeof out);
     if (due.command)

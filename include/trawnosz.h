@@ -26,7 +26,7 @@ extern "C" {
 #endif
 
 /* The release that this header is of; trawnosz_release tells that of the archive. */
-#define TRAWNOSZ_RELEASE "1.3"
+#define TRAWNOSZ_RELEASE "1.4"
 
 /* Sizes and limits. */
 enum {
@@ -57,7 +57,7 @@ enum {
     TRAWNOSZ_REFUSED_SUM = 7,      /* the sum is wrong */
     TRAWNOSZ_REFUSED_VERSION = 8,  /* main version not 1 */
     TRAWNOSZ_REFUSED_COMMAND = 9,  /* not 1 to 6; where an exchange is begun, not 1, 2 or 4 */
-    TRAWNOSZ_REFUSED_TIME = 10,    /* a label out of range; place 0 is the header, i+1 object i */
+    TRAWNOSZ_REFUSED_TIME = 10,    /* a label neither in range nor six zeros; place 0 is the header, i+1 object i */
     TRAWNOSZ_REFUSED_UNIT = 11,    /* 3 or 6: L above 0; other commands, or a unit alone: under 2 bytes */
     TRAWNOSZ_REFUSED_TYPE = 12,    /* not in the table, or not carried by the command */
     TRAWNOSZ_REFUSED_COUNT = 13,   /* n is 0 or above its limit */
@@ -133,6 +133,15 @@ enum {
     TRAWNOSZ_OUTCOME_FAILED = 43     /* given up; the place is free again */
 };
 
+/* What a label that was read is, in the member `shown` beside its six bytes. A refused reading is all zero, its label too,
+ * but shows NOTHING, which no reading that is good shows: so six zeros mean "no time" only where `shown` is NO_TIME. */
+enum {
+    TRAWNOSZ_SHOWN_NOTHING = 0,  /* refused: there is no reading */
+    TRAWNOSZ_SHOWN_TIME = 1,     /* a time */
+    TRAWNOSZ_SHOWN_NO_TIME = 2,  /* six zeros: the sender has no clock; a box must not set its own from it */
+    TRAWNOSZ_SHOWN_NO_LABEL = 3  /* an object of a type without a label; the label's numbers are zero */
+};
+
 /* 0 and 0, or a refusal's number and its place (0 where none is named). */
 typedef struct trawnosz_verdict {
     uint8_t number;
@@ -146,7 +155,9 @@ typedef struct trawnosz_found {
     size_t to;
 } trawnosz_found;
 
-/* A time label: second 0-59, minute 0-59, hour 0-23, day 1-31, month 1-12, year 0-99. */
+/* A time label: second 0-59, minute 0-59, hour 0-23, day 1-31, month 1-12, year 0-99, each byte judged alone; or six zeros,
+ * which mean that there is no time. Every other label is TIME, where it is read and where it is written, a day of 0 beside
+ * any other byte above 0 too. */
 typedef struct trawnosz_label {
     uint8_t second;
     uint8_t minute;
@@ -174,10 +185,11 @@ typedef struct trawnosz_draft {
     uint8_t command;
 } trawnosz_draft;
 
-/* A packet's fields and L, zeros where it is refused. */
+/* A packet's fields, what its header's label is (SHOWN_TIME or SHOWN_NO_TIME), and L; zeros where it is refused. */
 typedef struct trawnosz_opened {
     trawnosz_verdict verdict;
     trawnosz_header header;
+    uint8_t shown;
     size_t length;
 } trawnosz_opened;
 
@@ -211,10 +223,11 @@ typedef struct trawnosz_fields {
     trawnosz_label label;
 } trawnosz_fields;
 
-/* An object's fields, all zero where it is refused. */
+/* An object's fields, and what its label is; all zero where it is refused. */
 typedef struct trawnosz_typed {
     trawnosz_verdict verdict;
     trawnosz_fields fields;
+    uint8_t shown;
 } trawnosz_typed;
 
 /* What a receiver's call found: an event with the skipped count that it carries, the packet's length for PACKET, the bytes
@@ -356,7 +369,7 @@ trawnosz_verdict trawnosz_write_packet_object(uint8_t *out, size_t out_length, s
 trawnosz_verdict trawnosz_write_packet_text(uint8_t *out, size_t out_length, const uint8_t *text, size_t text_length);
 
 /* Writes the reply that is due to a packet, 30 bytes, to the front of `out`. Refuses CUT, START, LENGTH, CUT, END, SUM of
- * the packet; then, where a reply is due, TIME of the label and ROOM (under 30). */
+ * the packet; then, where a reply is due, TIME of the label (six zeros are none) and ROOM (under 30). */
 trawnosz_answer trawnosz_answer_to(const uint8_t *packet, size_t packet_length, trawnosz_label label, uint8_t *out,
                                    size_t out_length);
 
@@ -376,7 +389,8 @@ size_t trawnosz_unit_length(uint8_t type, size_t n);
 /* Where an object stands, its label included; refuses as the unit's judge, then NUMBER. */
 trawnosz_found trawnosz_find_object(const uint8_t *unit, size_t unit_length, size_t number);
 
-/* An object's fields; refuses as trawnosz_find_object. */
+/* An object's fields, with what its label is. Types 8, 28 and 90 too may have six zeros for a time: a box must not set its
+ * clock from them, nor from any label that is not SHOWN_TIME. Refuses as trawnosz_find_object. */
 trawnosz_typed trawnosz_read_object(const uint8_t *unit, size_t unit_length, size_t number);
 
 /* Where an object's description stands, for type 26 its text; an empty part, at the object's end, for a type without one.
@@ -464,8 +478,8 @@ trawnosz_found trawnosz_release(uint8_t *out, size_t out_length);
 /* ---- Stack: the bytes that a call needs at most, all that it calls included, beside its arguments, its answer and what memcpy,
  * memmove and memset need; read out of the archive's code by tests/stack. ----
  *
- *   trawnosz_answer_to                304
- *   trawnosz_begin_and_write          864
+ *   trawnosz_answer_to                336
+ *   trawnosz_begin_and_write          896
  *   trawnosz_exchanges_fresh            8
  *   trawnosz_find_description         112
  *   trawnosz_find_object              112
@@ -477,7 +491,7 @@ trawnosz_found trawnosz_release(uint8_t *out, size_t out_length);
  *   trawnosz_judge_unit                80
  *   trawnosz_judge_unit_under          80
  *   trawnosz_name                      88
- *   trawnosz_read_object              128
+ *   trawnosz_read_object              176
  *   trawnosz_read_packet              176
  *   trawnosz_receive                  304
  *   trawnosz_release                   31
@@ -489,7 +503,7 @@ trawnosz_found trawnosz_release(uint8_t *out, size_t out_length);
  *   trawnosz_tick                     800
  *   trawnosz_unit_length                8
  *   trawnosz_write_object             234
- *   trawnosz_write_packet             224
+ *   trawnosz_write_packet             256
  *   trawnosz_write_packet_object      234
  *   trawnosz_write_packet_text          8
  *   trawnosz_write_text                 8
@@ -529,6 +543,7 @@ TRAWNOSZ_LAYOUT(trawnosz_draft, command, 13);
 TRAWNOSZ_LAYOUT_SIZE(trawnosz_opened, 48);
 TRAWNOSZ_LAYOUT(trawnosz_opened, verdict, 0);
 TRAWNOSZ_LAYOUT(trawnosz_opened, header, 16);
+TRAWNOSZ_LAYOUT(trawnosz_opened, shown, 38);
 TRAWNOSZ_LAYOUT(trawnosz_opened, length, 40);
 TRAWNOSZ_LAYOUT_SIZE(trawnosz_fields, 24);
 TRAWNOSZ_LAYOUT(trawnosz_fields, kind, 0);
@@ -546,9 +561,10 @@ TRAWNOSZ_LAYOUT(trawnosz_fields, state, 15);
 TRAWNOSZ_LAYOUT(trawnosz_fields, main, 16);
 TRAWNOSZ_LAYOUT(trawnosz_fields, minor, 17);
 TRAWNOSZ_LAYOUT(trawnosz_fields, label, 18);
-TRAWNOSZ_LAYOUT_SIZE(trawnosz_typed, 40);
+TRAWNOSZ_LAYOUT_SIZE(trawnosz_typed, 48);
 TRAWNOSZ_LAYOUT(trawnosz_typed, verdict, 0);
 TRAWNOSZ_LAYOUT(trawnosz_typed, fields, 16);
+TRAWNOSZ_LAYOUT(trawnosz_typed, shown, 40);
 TRAWNOSZ_LAYOUT_SIZE(trawnosz_served, 48);
 TRAWNOSZ_LAYOUT(trawnosz_served, event, 0);
 TRAWNOSZ_LAYOUT(trawnosz_served, length, 8);

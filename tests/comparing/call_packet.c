@@ -49,10 +49,12 @@ struct ind_packet both_read_packet(struct trial *t, const uint8_t *packet, size_
     trawnosz_header header = their_header(&mine);
     tell_verdict(&a, mine.verdict);
     tell_header(&a, &header);
+    tell(&a, "shown", mine.shown);
     tell(&a, "length", mine.unit_size);
     trawnosz_opened theirs = trawnosz_read_packet(lend(t, LENT_INPUT, packet, size), size);
     tell_their_verdict(&b, theirs.verdict);
     tell_header(&b, &theirs.header);
+    tell(&b, "shown", theirs.shown);
     tell(&b, "length", theirs.length);
     agree(t, &a, &b);
     check_lent(t, LENT_INPUT, "packet", packet);

@@ -84,9 +84,11 @@ struct ind_object both_read_object(struct trial *t, const uint8_t *unit, size_t 
     trawnosz_fields fields = their_fields(&mine);
     tell_verdict(&a, mine.verdict);
     tell_fields(&a, &fields);
+    tell(&a, "shown", mine.shown);
     trawnosz_typed theirs = trawnosz_read_object(lent, size, number);
     tell_their_verdict(&b, theirs.verdict);
     tell_fields(&b, &theirs.fields);
+    tell(&b, "shown", theirs.shown);
     agree(t, &a, &b);
     check_lent(t, LENT_INPUT, "unit", unit);
     return mine;

@@ -137,7 +137,7 @@ size_t both_unit_length(struct trial *t, uint8_t type, size_t n);
 struct ind_devices both_judge_table(struct trial *t, const uint8_t *table, size_t size);
 struct ind_span both_find_place(struct trial *t, const uint8_t *table, size_t size, const uint8_t key[7]);
 
-/* ---- make.c: good labels, units and packets; spoil.c: one thing wrong in them ---- */
+/* ---- make.c: labels, a time or no time, and bad ones; good units and packets; spoil.c: one thing wrong in them ---- */
 
 enum { MADE_MOST = 1400, TYPES = 14 };
 
@@ -235,6 +235,7 @@ void expect_verdict(struct trial *t, struct ind_verdict verdict, enum ind_refusa
 /* ---- kind_*.c: the kinds of input ---- */
 
 void try_examples(struct trial *t);
+void try_label_examples(struct trial *t);
 void try_exchange_examples(struct trial *t);
 void try_streams(struct trial *t);
 void try_noise(struct trial *t);

@@ -18,19 +18,47 @@ static void add_refused(struct trial *t, const struct made_type *type, size_t n,
     add_bytes(&stream, packet, 30 + unit_size);
 }
 
-/* One packet for each refusal that the judge of a packet in a right frame gives. */
+/* One packet for each refusal that the judge of a packet in a right frame gives; of a label by a day of 32, which is TIME also
+ * beside zeros. */
 static void add_each_refusal(struct trial *t)
 {
     const struct made_type *clock = made_type_of(28);
     add_refused(t, clock, 1, 4, 2, 2);
     add_refused(t, clock, 1, 0, 0, 7);
-    add_refused(t, clock, 1, 9, 0, 2);
-    add_refused(t, clock, 1, 32, 0, 5);
+    add_refused(t, clock, 1, 9, 32, 2);
+    add_refused(t, clock, 1, 32, 32, 5);
     add_refused(t, clock, 1, 0, 0, 3);
     add_refused(t, NULL, 0, 0, 0, 2);
     add_refused(t, clock, 1, 0, 0, 1);
     add_refused(t, clock, 2, 0, 0, 2);
     add_refused(t, clock, 1, 27, 1, 2);
+}
+
+/* A clock's packet with its own label and its object's as they are given. */
+static void add_labelled(struct trial *t, const uint8_t header[6], const uint8_t object[6])
+{
+    uint8_t packet[MADE_MOST];
+    size_t unit_size = make_unit(t, packet + 27, made_type_of(28), 1);
+    make_head(t, packet, unit_size, 2);
+    memcpy(packet + 6, header, 6);
+    memcpy(packet + 29, object, 6);
+    seal(packet, unit_size);
+    add_bytes(&stream, packet, 30 + unit_size);
+}
+
+/* "Six zeros are to mean "no time" in header and objects alike"; "A day of 0 with any other byte above 0 stays TIME." */
+static void add_each_no_time(struct trial *t)
+{
+    static const uint8_t time[6] = {0, 0, 0, 1, 1, 0}, no_time[6];
+    add_labelled(t, no_time, time);
+    add_labelled(t, time, no_time);
+    add_labelled(t, no_time, no_time);
+    for (size_t i = 0; i < 6; i++) {
+        uint8_t nearly[6] = {0};
+        nearly[i] = 1;
+        add_labelled(t, nearly, no_time);
+        add_labelled(t, no_time, nearly);
+    }
 }
 
 /* Every type at n 1 and at its largest n. */
@@ -48,6 +76,7 @@ static void make_stream(struct trial *t)
     add_each_type(t);
     add_run(&stream, 0, 65535 + between(t, 1, 500));
     add_each_refusal(t);
+    add_each_no_time(t);
     for (int i = 0; i < 100; i++)
         add_segment(t, &stream);
     add_packet(t, &stream);

@@ -1,4 +1,5 @@
-/* The documents' own examples, with the answers that they state; those of exchanges stand in kind_exchange_examples.c. */
+/* The documents' own examples, with the answers that they state; those of request Q-1's labels stand in kind_label_examples.c,
+ * those of exchanges in kind_exchange_examples.c. */
 #include "comparing.h"
 
 #include <string.h>
@@ -163,6 +164,7 @@ void try_examples(struct trial *t)
     try_unit_examples(t);
     try_largest_n(t);
     try_receiver_examples(t);
+    try_label_examples(t);
     try_exchange_examples(t);
     try_table_examples(t);
     try_reply_examples(t);

@@ -1,4 +1,4 @@
-/* The documents' examples and readings of exchanges, requests among them, with the answers that they state. */
+/* The documents' examples and readings of exchanges, requests among them, with the answers that they state. */
 #include "comparing.h"
 
 #include <string.h>
@@ -130,6 +130,47 @@ static void try_taken_answers(struct trial *t)
     expect(t, book.exchange[6].mode == IND_REQUEST && book.exchange[6].serial == 6);
 }
 
+/* "Six zeros are to mean "no time" in header and objects alike, read and written": a begin with them is good and writes them,
+ * one that is nearly so is TIME and uses up nothing. */
+static void try_begun_without_time(struct trial *t)
+{
+    struct ind_book book;
+    uint8_t out[39];
+    struct ind_draft draft = {.label = {0, 0, 0, 0, 1, 0}, .source = {1}, .command = 2, .unit_size = 9};
+    memset(out, 0xEE, sizeof out);
+    from_hex(out + 27, example_b_unit);
+    memset(out + 30, 0, 6);
+    fresh(t, &book, 1, 0);
+    expect_verdict(t, both_begin_and_write(t, &book, 0, out, sizeof out, &draft).verdict, IND_TIME, 0);
+    draft.label[4] = 0;
+    struct ind_begun begun = both_begin_and_write(t, &book, 0, out, sizeof out, &draft);
+    expect(t, !begun.verdict.refusal && begun.place == 0 && begun.serial == 0 && begun.packet_size == 39);
+    expect(t, memcmp(out + 6, draft.label, 6) == 0);
+    expect(t, both_read_packet(t, out, sizeof out).shown == IND_SHOWN_NO_TIME);
+}
+
+/* An answer without a time, in header and object, ends its request; one that is nearly so is a bad answer, and resent. */
+static void try_taken_without_time(struct trial *t)
+{
+    struct ind_book book;
+    uint8_t packet[64];
+    size_t size = from_hex(packet, example_b);
+    fresh(t, &book, 10, 1);
+    start_request(t, &book, 1);
+    packet[2] = 0;
+    packet[26] = 5;
+    memset(packet + 6, 0, 6);
+    memset(packet + 30, 0, 6);
+    packet[34] = 1;
+    seal(packet, size - 30);
+    struct ind_turn turn = both_take_packet(t, &book, packet, size);
+    expect(t, turn.place == 8 && turn.outcome == IND_RESENT);
+    packet[34] = 0;
+    seal(packet, size - 30);
+    turn = both_take_packet(t, &book, packet, size);
+    expect(t, turn.place == 8 && turn.outcome == IND_ANSWERED && book.exchange[8].mode == IND_FREE);
+}
+
 /* "Places 0 to 7 are the first centre's, 8 to 15 the second's; each centre has an address and a next serial of its own". */
 static void try_two_centres(struct trial *t)
 {
@@ -229,6 +270,8 @@ void try_exchange_examples(struct trial *t)
     try_refused_begins(t);
     try_begun_bytes(t);
     try_taken_answers(t);
+    try_begun_without_time(t);
+    try_taken_without_time(t);
     try_two_centres(t);
     try_no_centre(t);
     try_reply_sources(t);

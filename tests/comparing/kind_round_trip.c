@@ -3,11 +3,28 @@
 
 #include <string.h>
 
+/* "Six zeros are to mean "no time"": what a reading must show of six bytes that it has accepted as a label. */
+static enum ind_shown shown_of(const uint8_t label[6])
+{
+    static const uint8_t zeros[6];
+    return memcmp(label, zeros, 6) == 0 ? IND_SHOWN_NO_TIME : IND_SHOWN_TIME;
+}
+
+/* The object that is read, of which is shown what the bytes of its label are. */
+static struct ind_object read_shown(struct trial *t, const uint8_t *unit, size_t size, size_t number)
+{
+    struct ind_object object = both_read_object(t, unit, size, number);
+    bool labelled = made_type_of(unit[0])->label >= 0;
+    if (object.shown != (labelled ? shown_of(object.label) : IND_SHOWN_NO_LABEL))
+        differ(t, "what is shown of an object's label is not what its bytes are");
+    return object;
+}
+
 /* Writes every object of a unit again, into a copy in which only its type and n stand. */
 static void write_objects_again(struct trial *t, uint8_t *again, size_t room, const uint8_t *unit, size_t size)
 {
     for (size_t i = 0; i < unit[1]; i++) {
-        struct ind_object object = both_read_object(t, unit, size, i);
+        struct ind_object object = read_shown(t, unit, size, i);
         struct ind_span text = both_description_place(t, unit, size, i);
         struct ind_verdict verdict;
         if (unit[0] == 26)
@@ -19,13 +36,16 @@ static void write_objects_again(struct trial *t, uint8_t *again, size_t room, co
     }
 }
 
-/* "An accepted packet, written again from its fields, has the same bytes." */
+/* "An accepted packet, written again from its fields, has the same bytes." They are written over bytes that are not 0, so that
+ * six zeros are seen to be written. */
 static void read_and_write(struct trial *t, const uint8_t *packet, size_t size)
 {
     uint8_t again[MADE_MOST];
-    memset(again, 0, sizeof again);
+    memset(again, 0xEE, sizeof again);
     struct ind_packet fields = both_read_packet(t, packet, size);
     struct ind_span unit = both_unit_place(t, packet, size);
+    if (fields.shown != shown_of(packet + 6))
+        differ(t, "what is shown of a packet's label is not what its bytes are");
     if (unit.length > 0) {
         memcpy(again + 27, packet + 27, 2);
         write_objects_again(t, again, size, packet + unit.start, unit.length);
@@ -41,7 +61,7 @@ static bool same_fields(const struct ind_packet *back, const struct ind_packet *
     return !back->verdict.refusal && back->serial == fields->serial && back->user_version == fields->user_version
         && memcmp(back->label, fields->label, 6) == 0 && memcmp(back->source, fields->source, 6) == 0
         && memcmp(back->destination, fields->destination, 6) == 0 && back->command == fields->command
-        && back->unit_size == fields->unit_size;
+        && back->unit_size == fields->unit_size && back->shown == shown_of(fields->label);
 }
 
 /* "a packet we write reads back as the same fields." */
@@ -97,10 +117,22 @@ static void begin_and_read(struct trial *t)
         differ(t, "the reply to a begun packet does not fit its exchange");
 }
 
+/* "Panels without a clock": six zeros for every label of a good packet. */
+static void clear_labels(uint8_t *packet, size_t size)
+{
+    const struct made_type *type = size > 30 ? made_type_of(packet[27]) : NULL;
+    memset(packet + 6, 0, 6);
+    for (size_t i = 0; type && type->label >= 0 && i < packet[28]; i++)
+        memset(packet + 29 + i * type->size + (size_t)type->label, 0, 6);
+    seal(packet, size - 30);
+}
+
 void try_round_trip(struct trial *t)
 {
     uint8_t packet[MADE_MOST];
     size_t size = make_any_packet(t, packet);
+    if (chance(t, 15))
+        clear_labels(packet, size);
     read_and_write(t, packet, size);
     write_and_read(t, packet + 27, size - 30, packet[26]);
     begin_and_read(t);

@@ -3,13 +3,13 @@
 
 #include <string.h>
 
-/* A unit whose type and n stand; its objects are good, zeros or anything. */
+/* A unit whose type and n stand; its objects are good, zeros, which are good too, or anything, mostly with bad labels. */
 static size_t make_written_unit(struct trial *t, uint8_t *unit)
 {
     size_t size = make_any_unit(t, unit);
     if (chance(t, 25))
         memset(unit + 2, 0, unit[0] == 26 ? 0 : size - 2);
-    else if (chance(t, 25) && unit[0] != 26)
+    else if (chance(t, 35) && unit[0] != 26)
         fill(t, unit + 2, size - 2);
     if (chance(t, 15))
         spoil_unit(t, unit, &size);

@@ -1,4 +1,4 @@
-/* Good labels, units, packets and fields, often at their limits. */
+/* Labels good and bad, good units, packets and fields, often at their limits. */
 #include "comparing.h"
 
 #include <string.h>
@@ -21,10 +21,9 @@ const struct made_type *made_type_of(uint8_t type)
     return NULL;
 }
 
-/* Each byte anywhere in its range, one in four at an end of it. */
-void make_label(struct trial *t, uint8_t *label)
+/* A time: each byte anywhere in its range, one in four at an end of it. */
+static void make_time(uint64_t bits, uint8_t *label)
 {
-    uint64_t bits = draw(t);
     for (int i = 0; i < 6; i++) {
         uint8_t eight = (uint8_t)(bits >> (8 * i));
         label[i] = (uint8_t)(least[i] + eight / 4 % (most[i] - least[i] + 1));
@@ -35,10 +34,36 @@ void make_label(struct trial *t, uint8_t *label)
     }
 }
 
-/* A good label with one byte out of its range, mostly by one. */
+/* One in ten is no time, one in twenty the time that is nearest to it; all others are any time. */
+void make_label(struct trial *t, uint8_t *label)
+{
+    uint64_t bits = draw(t);
+    unsigned kind = (unsigned)(bits >> 48) % 20;
+    if (kind < 2)
+        memset(label, 0, 6);
+    else if (kind == 2)
+        memcpy(label, least, 6);
+    else
+        make_time(bits, label);
+}
+
+/* Five zeros and a byte above 0, which never is a time, since day and month cannot both be that byte. */
+static void make_nearly_no_time(struct trial *t, uint8_t *label)
+{
+    size_t i = below(t, 6);
+    const size_t bytes[] = {1, most[i], most[i] + 1u, between(t, 1, 255)};
+    memset(label, 0, 6);
+    label[i] = (uint8_t)bytes[below(t, 4)];
+}
+
+/* A time with one byte out of its range, mostly by one, or what is nearly no time; six zeros are neither. */
 void make_bad_label(struct trial *t, uint8_t *label)
 {
-    make_label(t, label);
+    if (chance(t, 25)) {
+        make_nearly_no_time(t, label);
+        return;
+    }
+    make_time(draw(t), label);
     size_t i = below(t, 6);
     if (least[i] == 1 && chance(t, 50))
         label[i] = 0;

@@ -1,4 +1,4 @@
-/* The independent program: the rules of document 01 and of document 02's requests Q-8, Q-10 and Q-11, written from those
+/* The independent program: the rules of document 01 and of document 02's requests Q-1, Q-8, Q-10 and Q-11, written from those
  * papers alone, to compare the library with. */
 #ifndef INDEPENDENT_H
 #define INDEPENDENT_H
@@ -36,8 +36,13 @@ struct ind_span ind_span_at(size_t start, size_t length);
 const char *ind_name(uint8_t number);
 struct ind_span ind_put_front(uint8_t *out, size_t room, const char *text);
 
-/* Six bytes of a time label, in the order in which they stand in a packet. */
+/* ---- Labels: six bytes, in the order in which they stand in a packet ---- */
+
+enum ind_judged { IND_JUDGED_BAD, IND_JUDGED_TIME, IND_JUDGED_NO_TIME };
+
+enum ind_judged ind_judge_label(const uint8_t label[6]);
 bool ind_label_good(const uint8_t label[6]);
+enum ind_shown ind_show_label(const uint8_t label[6]);
 
 /* ---- Types of units ---- */
 
@@ -63,12 +68,14 @@ size_t ind_unit_length(uint8_t type, size_t n);
 
 /* ---- Units and objects ---- */
 
-/* The numbers of an object by the letter of their field; a field that the type does not have is 0. */
+/* The numbers of an object by the letter of their field; a field that the type does not have is 0. What the label is, is shown
+ * by a reading and not looked at by a writer. */
 struct ind_object {
     struct ind_verdict verdict;
     uint8_t kind;
     uint32_t number[128];
     uint8_t label[6];
+    enum ind_shown shown;
 };
 
 struct ind_verdict ind_judge_shape(const uint8_t *unit, size_t size, const char *command);
@@ -83,11 +90,13 @@ struct ind_verdict ind_write_text(uint8_t *out, size_t room, const uint8_t *text
 
 /* ---- Packets ---- */
 
+/* What the header's label is, is shown by a reading and not looked at by a writer. */
 struct ind_packet {
     struct ind_verdict verdict;
     uint16_t serial;
     uint8_t user_version;
     uint8_t label[6];
+    enum ind_shown shown;
     uint8_t source[6];
     uint8_t destination[6];
     uint8_t command;

@@ -85,6 +85,16 @@ enum { IND_FIRST_CENTRE = 0, IND_SECOND_CENTRE = 1 };
 /* "mode (free, send, request)"; "A free place is all zero." */
 enum ind_mode { IND_FREE = 0, IND_SEND = 1, IND_REQUEST = 2 };
 
+/* "The judgement of a label now has three answers: a time, no time, bad" and "the typed reading shows it": request Q-1 gives
+ * no numbers, so they are ours. Nothing is shown where a reading is refused, which returns "zero or nothing for all else"; an
+ * object of a type without a label is not one without a time. */
+enum ind_shown {
+    IND_SHOWN_NOTHING = 0,
+    IND_SHOWN_TIME = 1,
+    IND_SHOWN_NO_TIME = 2,
+    IND_SHOWN_NO_LABEL = 3
+};
+
 /* The paper numbers no outcome, and no event but LENGTH, END and SUM. Ours lie above the numbers up to 31 that document 02
  * uses; nothing is 0. */
 enum {

@@ -51,6 +51,7 @@ struct ind_verdict ind_judge_packet(const uint8_t *packet, size_t size)
     return ind_judge_unit_under(packet + 27, size - 30, packet[26]);
 }
 
+/* "in header and objects alike, read and written": the reading of a packet shows what its header's label is. */
 struct ind_packet ind_read_packet(const uint8_t *packet, size_t size)
 {
     struct ind_packet fields;
@@ -61,6 +62,7 @@ struct ind_packet ind_read_packet(const uint8_t *packet, size_t size)
     fields.serial = (uint16_t)ind_low_first(packet + 2);
     fields.user_version = packet[5];
     memcpy(fields.label, packet + 6, 6);
+    fields.shown = ind_show_label(packet + 6);
     memcpy(fields.source, packet + 12, 6);
     memcpy(fields.destination, packet + 18, 6);
     fields.command = packet[26];

@@ -16,6 +16,7 @@ use Rattle.fields.proofs.Rounds.{Ranged}
 use Rattle.kinds.specs.declared.Row.{Row}
 use Rattle.kinds.specs.declared.Found.the-variants.{At}
 use Rattle.kinds.specs.Table.{NONE, table, rows, findRow, entryOf, descriptionSize}
+use Rattle.label.specs.Times.{judged, shownAs}
 use Rattle.objects.specs.Writing.{isTimely, writeVerdict, writtenUnit}
 use Rattle.objects.specs.Texts.{textUnit, textVerdict, writtenText}
 use Rattle.objects.specs.Series.{Write, writtenAll, AllTaken, Each, lastOf, readAt}
@@ -43,7 +44,7 @@ use Rattle.packet.specs.Frames.{unitOf, judgedPacket}
 use Rattle.packet.specs.Headers.{openedPacket}
 use Rattle.packet.proofs.Header.{the-row}
 use Rattle.typed.specs.declared.Typed.{Typed}
-use Rattle.typed.specs.Typing.{typedObject, descriptionPlace}
+use Rattle.typed.specs.Typing.{showing, typedObject, descriptionPlace}
 use Rattle.unit.specs.declared.Carrier.the-variants.{Any}
 use Rattle.unit.specs.Objects.{typeOf, countOf, objectAt}
 use Rattle.unit.specs.Units.{rowOf, judgedUnit}
@@ -72,10 +73,11 @@ packet-again p out o bytes read accepted =
       again-beyond rows p bytes (told .0) out room stands,
     ))
 
--- what is written is accepted, and reads back as the same fields, length and unit; what stands beyond it stays
+-- what is written is accepted, and reads back as the same fields, length and unit, with what the label is judged to be; what stands beyond it stays
 pub packet-read-back : (out : List ℕ) (h : Header) (l : ℕ) → Fitting h → isGood (packetVerdict rows out h l) ≡ true
     → (isGood (judgedPacket rows (take (30 + l) (writtenPacket rows out h l))) ≡ true)
     × (openedPacket rows (take (30 + l) (writtenPacket rows out h l)) .header ≡ h)
+    × (openedPacket rows (take (30 + l) (writtenPacket rows out h l)) .shown ≡ shownAs (judged (h .label)))
     × (openedPacket rows (take (30 + l) (writtenPacket rows out h l)) .length ≡ l)
     × (unitOf (take (30 + l) (writtenPacket rows out h l)) ≡ part out 27 (27 + l))
     × (drop (30 + l) (writtenPacket rows out h l) ≡ drop (30 + l) out)
@@ -83,6 +85,7 @@ packet-read-back out h l fit g =
     let there = sent-there rows out h l fit g in (
       ap (λ (q : List ℕ). isGood (judgedPacket rows q)) there ∙ sent-good rows out h l fit g,
       ap (λ (q : List ℕ). openedPacket rows q .header) there ∙ ap (λ (o : Opened). o .header) (sent-opened rows out h l fit g),
+      ap (λ (q : List ℕ). openedPacket rows q .shown) there ∙ ap (λ (o : Opened). o .shown) (sent-opened rows out h l fit g),
       ap (λ (q : List ℕ). openedPacket rows q .length) there ∙ ap (λ (o : Opened). o .length) (sent-opened rows out h l fit g),
       ap unitOf there ∙ sent-unit rows out h l fit g,
       sent-beyond rows out h l fit g,
@@ -117,7 +120,7 @@ object-alone u k f d g =
 -- what was written is read back, fields and description, wherever the unit is good after the write
 pub object-read-back : (u : List ℕ) (k : ℕ) (f : Fields) (d : List ℕ) → isGood (writeVerdict rows u k f d) ≡ true
     → isGood (judgedUnit rows Any (writtenUnit table u k f d)) ≡ true → Ranged f
-    → _≡_ {A = Typed} (typedObject table (writtenUnit table u k f d) k) (record { verdict = good; fields = membersOf (entryOf table (typeOf u)) f })
+    → _≡_ {A = Typed} (typedObject table (writtenUnit table u k f d) k) (showing (entryOf table (typeOf u)) good (membersOf (entryOf table (typeOf u)) f))
     × (partIn (writtenUnit table u k f d) (descriptionPlace rows (writtenUnit table u k f d) k) ≡ d)
 object-read-back u k f d w g ranged = (written-reads u k f d w g ranged, written-described u k f d w g)
 
@@ -139,7 +142,7 @@ pub objects-read-back : (t n : ℕ) (body : List ℕ) (r : Row) (ws : List Write
     → AllTaken table (t ∷ n ∷ body) ws
     × (isGood (judgedUnit rows Any (writtenAll table (t ∷ n ∷ body) ws)) ≡ true)
     × ((k : ℕ) → k < n
-    → _≡_ {A = Typed} (typedObject table (writtenAll table (t ∷ n ∷ body) ws) k) (record { verdict = good; fields = membersOf (entryOf table t) (w k .fields) })
+    → _≡_ {A = Typed} (typedObject table (writtenAll table (t ∷ n ∷ body) ws) k) (showing (entryOf table t) good (membersOf (entryOf table t) (w k .fields)))
     × (partIn (writtenAll table (t ∷ n ∷ body) ws) (descriptionPlace rows (writtenAll table (t ∷ n ∷ body) ws) k) ≡ w k .description))
 objects-read-back t n body r ws w found plain one few long fitted all =
     let u : List ℕ = t ∷ n ∷ body in

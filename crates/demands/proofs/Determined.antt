@@ -21,6 +21,8 @@ use Rattle.label.proofs.Label.read_at.Reads as label-label-read-at
 use Rattle.label.proofs.Label.bytes.Reads as label-label-bytes
 use Rattle.label.proofs.Label.judge.Reads as label-label-judge
 use Rattle.label.proofs.Label.is_allowed.Reads as label-label-is-allowed
+use Rattle.label.proofs.Label.stands_in.Reads as label-label-stands-in
+use Rattle.label.proofs.Label.shown.Reads as label-label-shown
 use Rattle.kinds.proofs.row_of.Reads as kinds-row-of
 use Rattle.kinds.proofs.length_for.Reads as kinds-length-for
 use Rattle.kinds.proofs.Row.is_carried_by.Reads as kinds-row-is-carried-by
@@ -124,6 +126,12 @@ label-label-judge-determined κs x r s a b = a ∙ sym b
 
 pub label-label-is-allowed-determined : (κs : _) (x : _) (r s : _) → label-label-is-allowed.Post κs x r x → label-label-is-allowed.Post κs x s x → r ≡ s
 label-label-is-allowed-determined κs x r s a b = a ∙ sym b
+
+pub label-label-stands-in-determined : (κs : _) (x : _) (r s : _) → label-label-stands-in.Post κs x r x → label-label-stands-in.Post κs x s x → r ≡ s
+label-label-stands-in-determined κs x r s a b = a ∙ sym b
+
+pub label-label-shown-determined : (κs : _) (x : _) (r s : _) → label-label-shown.Post κs x r x → label-label-shown.Post κs x s x → r ≡ s
+label-label-shown-determined κs x r s a b = a ∙ sym b
 
 pub kinds-row-of-determined : (κs : _) (x : _) (r s : _) → kinds-row-of.Post κs x r x → kinds-row-of.Post κs x s x → r ≡ s
 kinds-row-of-determined κs x r s a b = a ∙ sym b

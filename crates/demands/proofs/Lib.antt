@@ -1,12 +1,16 @@
 pub mod Determined
 pub mod Lent
+pub mod CheckedLabels
 pub mod Checked
 pub mod Demand1
 pub mod Demand2
+pub mod NoTime
 pub mod Demand2Exchanges
 pub mod BoxLogs
 pub mod AlwaysEnds
 pub mod TwoCentres
 pub mod Demand3
 pub mod DeviceTable
+pub mod Narrowed
+pub mod Release13
 pub mod Exported

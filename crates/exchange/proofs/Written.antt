@@ -21,7 +21,7 @@ use Rattle.output.proofs.Sent.{Fitting}
 use Rattle.packet.specs.declared.Header.{Header}
 use Rattle.packet.specs.declared.Opened.{Opened}
 use Rattle.packet.specs.Frames.{unitOf, judgedPacket}
-use Rattle.packet.specs.Headers.{openedPacket}
+use Rattle.packet.specs.Headers.{showing, openedPacket}
 use Rattle.places.specs.Rows.{serialFor}
 use Rattle.verdict.specs.Orders.{isGood}
 use Rattle.exchange.specs.declared.Address.{Address}
@@ -95,7 +95,7 @@ module _ (x : Exchanges) (a : Asked) (six : Addressed x (a .centre) (a .draft)) 
   pub begun-judged : isGood (judgedPacket rows packet) ≡ true
   begun-judged = ap (λ (p : List ℕ). isGood (judgedPacket rows p)) there ∙ sent-good rows (a .out) heads (a .size) fits writes
 
-  opened : openedPacket rows packet ≡ record { verdict = judgedPacket rows sent; header = heads; length = a .size }
+  opened : openedPacket rows packet ≡ showing (judgedPacket rows sent) heads (a .size)
   opened = ap (openedPacket rows) there ∙ sent-opened rows (a .out) heads (a .size) fits writes
 
   pub begun-header : openedPacket rows packet .header ≡ headed x (a .centre) (a .draft) (begunBy x a .serial)

@@ -3,7 +3,7 @@ use Prim.Native.Nat.{ℕ}
 use mathlib.Core.Path.{_≡_, refl}
 use mathlib.Core.List.{List, [], _∷_, map}
 use Rattle.label.specs.declared.Judgement.{Judgement}
-use Rattle.label.specs.declared.Judgement.the-variants.{Time, Bad}
+use Rattle.label.specs.declared.Judgement.the-variants.{Time, NoTime, Bad}
 use Rattle.label.specs.Times.{labelOf, judged, inRanges}
 
 -- a label's bytes, and its judgement
@@ -26,8 +26,12 @@ cases =
     ∷ (59 ∷ 59 ∷ 23 ∷ 31 ∷ 13 ∷ 99 ∷ [], Bad)
     ∷ (59 ∷ 59 ∷ 23 ∷ 31 ∷ 0 ∷ 99 ∷ [], Bad)
     ∷ (59 ∷ 59 ∷ 23 ∷ 31 ∷ 12 ∷ 100 ∷ [], Bad)
-    -- six zeros are no time yet
-    ∷ (0 ∷ 0 ∷ 0 ∷ 0 ∷ 0 ∷ 0 ∷ [], Bad)
+    -- six zeros are no time, "A day of 0 with any other byte above 0 stays TIME"
+    ∷ (0 ∷ 0 ∷ 0 ∷ 0 ∷ 0 ∷ 0 ∷ [], NoTime)
+    ∷ (0 ∷ 0 ∷ 0 ∷ 0 ∷ 1 ∷ 0 ∷ [], Bad)
+    ∷ (0 ∷ 0 ∷ 0 ∷ 0 ∷ 0 ∷ 0x18 ∷ [], Bad)
+    ∷ (0 ∷ 0 ∷ 0 ∷ 1 ∷ 0 ∷ 0 ∷ [], Bad)
+    ∷ (1 ∷ 0 ∷ 0 ∷ 0 ∷ 0 ∷ 0 ∷ [], Bad)
     ∷ []
 
 pub examples : map (λ (e : List ℕ × Judgement). judged (labelOf (e .0))) cases ≡ map (λ (e : List ℕ × Judgement). e .1) cases

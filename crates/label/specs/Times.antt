@@ -1,14 +1,14 @@
--- The time label (document 01, "Packet"; 001, 8.2.2).
+-- The time label (document 01, "Packet"; 001, 8.2.2; document 02, Q-1).
 -- Assumes nothing.
 use Prim.Native.Nat.{ℕ}
 use mathlib.Core.Bool.{Bool, true, false, _&&_, cond}
 use mathlib.Core.List.{List, [], _∷_}
 use lib.Dec.{eqb, leb}
-use lib.ListN.{getD}
+use lib.ListN.{getD, replicate}
 use Rattle.verdict.specs.Refusals.{TIME}
 use Rattle.label.specs.declared.Label.{Label}
 use Rattle.label.specs.declared.Judgement.{Judgement}
-use Rattle.label.specs.declared.Judgement.the-variants.{Time, Bad}
+use Rattle.label.specs.declared.Judgement.the-variants.{Time, NoTime, Bad}
 
 -- second, minute, hour, day, month, year, in this order (001, 8.2.2)
 abbrev pub labelBytes : Label → List ℕ
@@ -29,15 +29,54 @@ inRanges [] bytes = true
 inRanges (r ∷ rs) [] = false
 inRanges (r ∷ rs) (b ∷ bytes) = leb (r .0) b && leb b (r .1) && inRanges rs bytes
 
--- "a label out of range"
-unfoldable pub judged : Label → Judgement
-judged l = cond (inRanges ranges (labelBytes l)) Time Bad
+-- "Six zeros are to mean "no time"": every byte lies in the range of 0 alone
+abbrev pub zeros : List (ℕ × ℕ)
+zeros = replicate 6 (0, 0)
 
--- "If an answer is an enum, a definition gives this paper's number": a time is good, "a label out of range" is TIME
+abbrev pub isNoTime : Label → Bool
+isNoTime l = inRanges zeros (labelBytes l)
+
+-- "a label out of range", of which six zeros are an answer of their own: "a time, no time, bad"
+unfoldable pub judged : Label → Judgement
+judged l = cond (inRanges ranges (labelBytes l)) Time (cond (isNoTime l) NoTime Bad)
+
+-- "If an answer is an enum, a definition gives this paper's number": a time is good, and no time too, "a label out of range" is TIME
 abbrev pub numberOf : Judgement → ℕ
 numberOf Time = 0
+numberOf NoTime = 0
 numberOf Bad = TIME
 
 -- which judgements are no refusal
 abbrev pub allowed : Judgement → Bool
 allowed j = eqb (numberOf j) 0
+
+-- which of the two a label is that may stand: a time has a day
+unfoldable pub timeOf : Label → Judgement
+timeOf l = cond (eqb (l .day) 0) NoTime Time
+
+-- "the typed reading shows it": a time, no time, that a type has no label, and on a refusal nothing
+pub data Case : Type 0 where
+  nothing time noTime noLabel : Case
+
+-- the number of each
+abbrev pub numberShown : Case → ℕ
+numberShown nothing = 0
+numberShown time = 1
+numberShown noTime = 2
+numberShown noLabel = 3
+
+-- the number by the judgement; a bad label is not read
+abbrev pub shownAs : Judgement → ℕ
+shownAs Time = numberShown time
+shownAs NoTime = numberShown noTime
+shownAs Bad = numberShown nothing
+
+abbrev pub SHOWN_NOTHING : ℕ
+SHOWN_NOTHING = numberShown nothing
+
+abbrev pub SHOWN_NO_LABEL : ℕ
+SHOWN_NO_LABEL = numberShown noLabel
+
+-- document 01's rule, which stood up to release 1.3: six zeros are out of range
+abbrev pub judgedIn13 : Label → Judgement
+judgedIn13 l = cond (inRanges ranges (labelBytes l)) Time Bad

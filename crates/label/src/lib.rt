@@ -1,9 +1,9 @@
 // The time label: six bytes by value, and the judgement of one.
 ghost use mathlib.Core.Path.{_≡_};
 ghost use mathlib.Core.Bool.{_&&_};
-ghost use lib.Dec.{leb};
+ghost use lib.Dec.{eqb, leb};
 ghost use lib.ListN.{drop};
-ghost use Rattle.label.specs.Times.{labelOf, labelBytes, judged, allowed};
+ghost use Rattle.label.specs.Times.{labelOf, labelBytes, ranges, inRanges, isNoTime, judged, allowed, timeOf, shownAs};
 
 #[repr(C)]
 pub struct Label {
@@ -18,8 +18,18 @@ pub struct Label {
 // What a label is judged to be.
 pub enum Judgement {
     Time,
+    NoTime,
     Bad,
 }
+
+// What a reading shows of a label beside its six bytes.
+pub const SHOWN_NOTHING: u8 = 0;
+
+pub const SHOWN_TIME: u8 = 1;
+
+pub const SHOWN_NO_TIME: u8 = 2;
+
+pub const SHOWN_NO_LABEL: u8 = 3;
 
 impl Label {
     // The label that stands from a place on; what is missing behind the end reads 0.
@@ -53,25 +63,42 @@ impl Label {
     pub fn judge(self) -> Judgement
         ensures { λ r. ⌜ r ≡ judged self ⌝ }
     {
+        if self.is_in_range() {
+            return Judgement::Time;
+        }
+        if self.is_zero() {
+            return Judgement::NoTime;
+        }
+        Judgement::Bad
+    }
+
+    // Each byte alone, day and month last: of the four in the middle the compiler then makes one test.
+    fn is_in_range(self) -> bool
+        ensures { λ r. ⌜ r ≡ inRanges ranges (labelBytes self) ⌝ }
+    {
         if !within(self.second, 0, 59) {
-            return Judgement::Bad;
+            return false;
         }
         if !within(self.minute, 0, 59) {
-            return Judgement::Bad;
+            return false;
         }
         if !within(self.hour, 0, 23) {
-            return Judgement::Bad;
-        }
-        if !within(self.day, 1, 31) {
-            return Judgement::Bad;
-        }
-        if !within(self.month, 1, 12) {
-            return Judgement::Bad;
+            return false;
         }
         if !within(self.year, 0, 99) {
-            return Judgement::Bad;
+            return false;
         }
-        Judgement::Time
+        if !within(self.day, 1, 31) {
+            return false;
+        }
+        within(self.month, 1, 12)
+    }
+
+    fn is_zero(self) -> bool
+        ensures { λ r. ⌜ r ≡ isNoTime self ⌝ }
+    {
+        let b = self.bytes();
+        are_zero(octets::four_at(&b, 0), octets::two_at(&b, 4))
     }
 
     // Whether the label may stand: what TIME asks.
@@ -80,9 +107,40 @@ impl Label {
     {
         match self.judge() {
             Judgement::Time => true,
+            Judgement::NoTime => true,
             Judgement::Bad => false,
         }
     }
+
+    // The same of the first six bytes, which are read again where they are no time: in a loop over labels a time then costs no more.
+    pub fn stands_in(s: &[u8]) -> bool
+        ensures { λ r. ⌜ r ≡ allowed (judged (labelOf (now (s .entry)))) ⌝ }
+    {
+        if Label::read_at(s, 0).is_in_range() {
+            return true;
+        }
+        are_zero(octets::four_at(s, 0), octets::two_at(s, 4))
+    }
+
+    // What a reading shows of a label that may stand: a time has a day.
+    pub fn shown(self) -> u8
+        ensures { λ r. ⌜ r ≡ shownAs (timeOf self) ⌝ }
+    {
+        if self.day == 0 {
+            return SHOWN_NO_TIME;
+        }
+        SHOWN_TIME
+    }
+}
+
+// Six bytes as two numbers.
+fn are_zero(low: u32, high: u16) -> bool
+    ensures { λ r. ⌜ r ≡ (eqb low 0 && eqb high 0) ⌝ }
+{
+    if low != 0 {
+        return false;
+    }
+    high == 0
 }
 
 fn within(x: u8, low: u8, high: u8) -> bool

@@ -12,14 +12,14 @@ use lib.Seq.{take-at, drop-at}
 use Rattle.frame.specs.Frame.{unitLength, frameTests}
 use Rattle.kinds.specs.declared.Row.{Row}
 use Rattle.label.specs.declared.Label.{Label}
-use Rattle.label.specs.Times.{labelOf, judged, allowed}
+use Rattle.label.specs.Times.{labelOf, judged, allowed, SHOWN_NOTHING}
 use Rattle.octets.specs.Numbers.{Octets}
 use Rattle.octets.specs.Parts.{part, putAt}
 use Rattle.octets.proofs.Parts.{length-part, put-from, put-after}
 use Rattle.packet.specs.declared.Header.{Header}
 use Rattle.packet.specs.declared.Opened.{Opened}
 use Rattle.packet.specs.Frames.{commandOf, unitOf, headerTests, judgedContent, judgedPacket}
-use Rattle.packet.specs.Headers.{headerOf, noHeader, openedPacket}
+use Rattle.packet.specs.Headers.{headerOf, noHeader, showing, openedPacket}
 use Rattle.output.specs.Packets.{packetBytes}
 use Rattle.unit.specs.Units.{isCommand, judgedUnder}
 use Rattle.verdict.specs.declared.Verdict.{Verdict}
@@ -72,7 +72,7 @@ module _ (rs : List Row) (p : List ℕ) (bytes : Octets p) (g : isGood (judgedPa
 -- what the reader answers of an accepted packet
 pub opened-is : (rs : List Row) (p : List ℕ) → isGood (openedPacket rs p .verdict) ≡ true
     → (isGood (judgedPacket rs p) ≡ true)
-    × _≡_ {A = Opened} (openedPacket rs p) (record { verdict = judgedPacket rs p; header = headerOf p; length = unitLength p })
+    × _≡_ {A = Opened} (openedPacket rs p) (showing (judgedPacket rs p) (headerOf p) (unitLength p))
 unfolding openedPacket
 opened-is rs p = by-test (isGood (judgedPacket rs p)) refl
   where
@@ -80,10 +80,10 @@ opened-is rs p = by-test (isGood (judgedPacket rs p)) refl
     v = judgedPacket rs p
 
     taken : Opened
-    taken = record { verdict = v; header = headerOf p; length = unitLength p }
+    taken = showing v (headerOf p) (unitLength p)
 
     refused : Opened
-    refused = record { verdict = v; header = noHeader; length = 0 }
+    refused = record { verdict = v; header = noHeader; shown = SHOWN_NOTHING; length = 0 }
 
     by-test : (b : Bool) → isGood v ≡ b → isGood (cond b taken refused .verdict) ≡ true → (isGood v ≡ true) × (cond b taken refused ≡ taken)
     by-test true e g = (e, refl)
@@ -120,13 +120,13 @@ module _ (rs : List Row) (out : List ℕ) (h : Header) (l : ℕ) (fit : Fitting 
   pub sent-good : isGood (judgedPacket rs (packetBytes h (part out 27 (27 + l)))) ≡ true
   sent-good = ap isGood (judged-sent h (part out 27 (27 + l)) fit few rs (fields-held .0) (fields-held .1)) ∙ fields-held .2
 
-  pub sent-opened : _≡_ {A = Opened} (openedPacket rs (packetBytes h (part out 27 (27 + l)))) (record { verdict = judgedPacket rs (packetBytes h (part out 27 (27 + l))); header = h; length = l })
+  pub sent-opened : _≡_ {A = Opened} (openedPacket rs (packetBytes h (part out 27 (27 + l)))) (showing (judgedPacket rs (packetBytes h (part out 27 (27 + l)))) h l)
   unfolding openedPacket
   sent-opened =
       let q : List ℕ = packetBytes h (part out 27 (27 + l)) in
       let u : List ℕ = part out 27 (27 + l) in
       let v : Verdict = judgedPacket rs q in
-      simp sent-good (λ i. record { verdict = v; header = header-sent h u fit few i; length = (length-sent h u fit few ∙ u-long) i })
+      simp sent-good (λ i. showing v (header-sent h u fit few i) ((length-sent h u fit few ∙ u-long) i))
 
   pub sent-unit : unitOf (packetBytes h (part out 27 (27 + l))) ≡ part out 27 (27 + l)
   sent-unit = unit-sent h (part out 27 (27 + l)) fit few

@@ -1,4 +1,4 @@
--- A packet's header by value, read and written (document 01, "Packet").
+-- A packet's header by value, read and written (document 01, "Packet"; document 02, Q-1).
 -- Assumes nothing.
 use Prim.Native.Nat.{ℕ}
 use mathlib.Core.Bool.{cond}
@@ -6,9 +6,10 @@ use mathlib.Core.List.{List, []}
 use lib.ListN.{length, getD, take, drop, replicate}
 use Rattle.frame.specs.Frame.{unitLength}
 use Rattle.kinds.specs.declared.Row.{Row}
-use Rattle.label.specs.Times.{labelOf}
+use Rattle.label.specs.Times.{labelOf, judged, shownAs, SHOWN_NOTHING}
 use Rattle.octets.specs.Numbers.{lowFirst}
 use Rattle.octets.specs.Parts.{oneByOne}
+use Rattle.verdict.specs.declared.Verdict.{Verdict}
 use Rattle.verdict.specs.Orders.{isGood}
 use Rattle.packet.specs.declared.Header.{Header}
 use Rattle.packet.specs.declared.Opened.{Opened}
@@ -31,8 +32,12 @@ abbrev pub noHeader : Header
 noHeader =
     record { serial = 0; version = 0; label = labelOf []; source = replicate 6 0; destination = replicate 6 0; command = 0 }
 
+-- "All who call it pass the difference on": the reading shows what the header's label is judged to be, and nothing on a refusal
+abbrev pub showing : Verdict → Header → ℕ → Opened
+showing v h l = record { verdict = v; header = h; shown = shownAs (judged (h .label)); length = l }
+
 unfoldable pub openedPacket : List Row → List ℕ → Opened
 openedPacket rs p =
     cond (isGood (judgedPacket rs p))
-    (record { verdict = judgedPacket rs p; header = headerOf p; length = unitLength p })
-    (record { verdict = judgedPacket rs p; header = noHeader; length = 0 })
+    (showing (judgedPacket rs p) (headerOf p) (unitLength p))
+    (record { verdict = judgedPacket rs p; header = noHeader; shown = SHOWN_NOTHING; length = 0 })

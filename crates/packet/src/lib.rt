@@ -23,11 +23,12 @@ pub struct Header {
     pub command: u8,
 }
 
-// A packet's fields and its unit's length with the verdict, zeros where it is refused.
+// A packet's fields, what its header's label is and its unit's length with the verdict, zeros where it is refused.
 #[repr(C)]
 pub struct Opened {
     pub verdict: Verdict,
     pub header: Header,
+    pub shown: u8,
     pub length: usize,
 }
 
@@ -100,12 +101,16 @@ pub fn read(p: &[u8]) -> Opened
         return Opened {
             verdict,
             header: no_header(),
+            shown: label::SHOWN_NOTHING,
             length: 0,
         };
     }
+    let header = header_of(p);
+    let label = header.label;
     Opened {
         verdict,
-        header: header_of(p),
+        header,
+        shown: label.shown(),
         length: frame::unit_length(p),
     }
 }

@@ -1,3 +1,4 @@
+pub mod Shown
 pub mod Typing
 pub mod Bodies
 pub mod Labelled

@@ -14,4 +14,5 @@ read-spec =
     (λ c. search not-opened)  -- !verdict.is_good()
     unasked
     unasked
+    unasked
     (λ c. search opened))
