@@ -6,7 +6,7 @@ use mathlib.Core.Bool.{Bool, true, false, not, false≢true, _||_, _&&_, and-eq-
 use mathlib.Core.List.{List, [], _∷_, _++_}
 use mathlib.Core.Logic.{inl, inr}
 use mathlib.Core.Path.{_≡_, refl, sym, ap, subst, _∙_}
-use borrow.Author.Tests.{eqb-false, leb-true, leb-false, le-leb, not-true, not-false}
+use borrow.Author.Tests.{eqb-false, ne-eqb, leb-true, leb-false, le-leb, not-true, not-false}
 use lib.Dec.{eqb, leb}
 use lib.ListN.{length, getD, drop}
 use Rattle.exchange.specs.declared.Draft.{Draft}
@@ -14,11 +14,12 @@ use Rattle.exchange.specs.declared.Exchanges.{Exchanges}
 use Rattle.exchange.specs.Begins.{headed, openingTests}
 use Rattle.exchange.specs.Table.{beginTests, found}
 use Rattle.fields.specs.declared.Fields.{Fields}
+use Rattle.frame.specs.Frame.{frameTests}
 use Rattle.kinds.specs.declared.Row.{Row}
 use Rattle.kinds.specs.Table.{NONE, descriptionSize}
 use Rattle.label.specs.declared.Label.{Label}
 use Rattle.label.specs.Times.{labelOf, isNoTime, judged, judgedIn13, allowed}
-use Rattle.label.proofs.Judging.{stands-now}
+use Rattle.label.proofs.Judging.{stands-now, no-time-judged}
 use Rattle.octets.specs.Parts.{part}
 use Rattle.octets.specs.Searches.{firstFit}
 use Rattle.octets.proofs.Flags.{by-test}
@@ -33,8 +34,8 @@ use Rattle.unit.specs.Places.{numberTest}
 use Rattle.unit.specs.Units.{rowOf, shapeTests, isBare, bareTests, isCommand}
 use Rattle.verdict.specs.declared.Verdict.{Verdict}
 use Rattle.verdict.specs.Orders.{Test, _or-else_, inOrder, refusal, good}
-use Rattle.verdict.specs.Refusals.{VERSION, COMMAND, TIME, UNIT, TYPE, COUNT, SIZE, KIND, TEXT}
-use Rattle.demands.specs.Release13.{timelyBy, timeTestBy, unitBy, underBy, headTest, contentBy, writerBy, begunBy, newTimelyBy, objectBy}
+use Rattle.verdict.specs.Refusals.{CUT, START, LENGTH, END, SUM, VERSION, COMMAND, TIME, UNIT, TYPE, COUNT, SIZE, KIND, TEXT}
+use Rattle.demands.specs.Release13.{timelyBy, timeTestBy, unitBy, underBy, headTest, contentBy, packetBy, writerBy, begunBy, newTimelyBy, objectBy}
 use Rattle.demands.specs.Release13.{Rule, labelAt, ObjectWithoutTime, WithoutTime, NewWithoutTime, Narrowed}
 
 -- what an order makes of two verdicts
@@ -76,8 +77,12 @@ apart i (t ∷ ts) v a not-so e = go (t .holds) e (apart i ts v (a .1) not-so)
     go false h ih = a .0 h
 
 -- another number is not TIME
-other : (n p i : ℕ) → (n ≡ TIME → ⊥) → refusal n p ≡ refusal TIME i → ⊥
-other n p i differs e = differs (ap (λ (v : Verdict). v .number) e)
+other : (n i : ℕ) → eqb n TIME ≡ false → refusal n 0 ≡ refusal TIME i → ⊥
+other n i differs e = eqb-false n TIME differs (ap (λ (v : Verdict). v .number) e)
+
+-- nor does one of a unit's shape
+others : (rs : List Row) (by : Carrier) (u : List ℕ) (i : ℕ) → Apart i (shapeTests rs by u)
+others rs by u i = (other UNIT i refl, (other TYPE i refl, (other COUNT i refl, (other SIZE i refl, tt))))
 
 module _ (r : Row) (u : List ℕ) where
   unlabelled : (j : Rule) (k : ℕ) → eqb (r .label) NONE ≡ true → timelyBy j r u k ≡ true
@@ -153,7 +158,7 @@ module _ (rs : List Row) (u : List ℕ) where
           gone : at g ≡ refusal TIME (suc f) → timelyBy judged (rowOf rs u) u f ≡ true → ⊥
           gone h t =
               by-test (leb n g)
-              (λ q. other 0 0 (suc f) (λ z. omega (arith, z)) (sym (ap (λ (b : Bool). cond b good (refusal TIME (suc g))) q) ∙ h))
+              (λ q. other 0 (suc f) refl (sym (ap (λ (b : Bool). cond b good (refusal TIME (suc g))) q) ∙ h))
               (λ q.
               let here : refusal TIME (suc g) ≡ refusal TIME (suc f) = sym (ap (λ (b : Bool). cond b good (refusal TIME (suc g))) q) ∙ h in
               let same : g ≡ f = omega (arith, ap (λ (v : Verdict). v .place) here) in
@@ -172,30 +177,21 @@ module _ (rs : List Row) where
       go true = inl refl
       go false = unit-narrowed (By c) u
 
-  -- a unit's TIME is never at place 0
-  under-apart : (c : ℕ) (u : List ℕ) → underBy judged rs c u ≡ refusal TIME 0 → ⊥
-  under-apart c u = apart 0 ((isCommand c or-else COMMAND) ∷ []) _ (other COMMAND 0 0 (λ e. omega (arith, e)), tt) (go (isBare c))
+  -- what a unit under a command is not refused for where the unit by itself is not
+  under-by : (c : ℕ) (u : List ℕ) (i : ℕ) → (unitBy judged rs (By c) u ≡ refusal TIME i → ⊥) → underBy judged rs c u ≡ refusal TIME i → ⊥
+  under-by c u i not-so = apart i ((isCommand c or-else COMMAND) ∷ []) _ (other COMMAND i refl, tt) (go (isBare c))
     where
-      not-good : good ≡ refusal TIME 0 → ⊥
-      not-good = other 0 0 0 (λ e. omega (arith, e))
+      go : (b : Bool) → cond b (inOrder (bareTests u) good) (unitBy judged rs (By c) u) ≡ refusal TIME i → ⊥
+      go true = apart i (bareTests u) good (other UNIT i refl, tt) (other 0 i refl)
+      go false = not-so
 
-      go : (b : Bool) → cond b (inOrder (bareTests u) good) (unitBy judged rs (By c) u) ≡ refusal TIME 0 → ⊥
-      go true = apart 0 (bareTests u) good (other UNIT 0 0 (λ e. omega (arith, e)), tt) not-good
-      go false =
-          apart 0 (shapeTests rs (By c) u ++ (timeTestBy judged (rowOf rs u) u ∷ [])) good (
-            other UNIT 0 0 (λ e. omega (arith, e)),
-            (
-              other TYPE 0 0 (λ e. omega (arith, e)),
-              (
-                other COUNT 0 0 (λ e. omega (arith, e)),
-                (
-                  other SIZE 0 0 (λ e. omega (arith, e)),
-                  (λ e. omega (arith, ap (λ (v : Verdict). v .place) e), tt),
-                ),
-              ),
-            ),
-          )
-          not-good
+  -- its TIME is never at place 0
+  under-apart : (c : ℕ) (u : List ℕ) → underBy judged rs c u ≡ refusal TIME 0 → ⊥
+  unfolding inOrder
+  under-apart c u =
+      under-by c u 0
+      (apart 0 (shapeTests rs (By c) u) _ (others rs (By c) u 0)
+      (apart 0 (timeTestBy judged (rowOf rs u) u ∷ []) good (λ e. omega (arith, ap (λ (v : Verdict). v .place) e), tt) (other 0 0 refl)))
 
   -- the header's label, then the unit under its command
   headed-narrowed : (l : Label) (c : ℕ) (u : List ℕ)
@@ -230,7 +226,7 @@ module _ (rs : List Row) where
   object-narrowed u k x d =
       over (NewWithoutTime rs u k x) _ _
       (label-test (NewWithoutTime rs u k x) good good (inl refl) (suc k) (newTimelyBy judgedIn13 (rowOf rs u) x) (newTimelyBy judged (rowOf rs u) x)
-      (not (eqb (rowOf rs u .label) NONE) && isNoTime (x .label)) (go (eqb (rowOf rs u .label) NONE)) so (other 0 0 (suc k) (λ e. omega (arith, e))))
+      (not (eqb (rowOf rs u .label) NONE) && isNoTime (x .label)) (go (eqb (rowOf rs u .label) NONE)) so (other 0 (suc k) refl))
       ((shapeTests rs Any u ++ (numberTest u k ∷ []))
       ++ ((eqb (x .kind) (typeOf u) && eqb (rowOf rs u .text) NONE or-else KIND) ∷ (eqb (length d) (descriptionSize (rowOf rs u)) or-else TEXT) ∷ []))
     where
@@ -242,3 +238,45 @@ module _ (rs : List Row) where
       so e =
           let both = and-eq-true-iff (not (eqb (rowOf rs u .label) NONE)) (isNoTime (x .label)) .0 e in
           (refl, eqb-false (rowOf rs u .label) NONE (not-true _ (both .0)), both .1)
+
+-- TIME is told of no label of six zeros, in the header or in an object
+module _ (rs : List Row) where
+  pub unit-spares : (by : Carrier) (u : List ℕ) (i : ℕ) → ObjectWithoutTime rs u i → unitBy judged rs by u ≡ refusal TIME i → ⊥
+  unfolding inOrder g bad
+  unit-spares by u i o = apart i (shapeTests rs by u) (at rs u (g rs u)) (others rs by u i) spared
+    where
+      timely-now : timelyBy judged (rowOf rs u) u (o .number) ≡ true
+      timely-now =
+          with-label (rowOf rs u) u judged (o .number) (ne-eqb (rowOf rs u .label) NONE (o .labelled))
+          ∙ ap allowed (no-time-judged (labelAt (rowOf rs u) u (o .number)) (o .no-time))
+
+      spared : at rs u (g rs u) ≡ refusal TIME i → ⊥
+      spared h =
+          by-test (leb (countOf u) (g rs u))
+          (λ q. other 0 i refl (sym (ap (λ (b : Bool). cond b good (refusal TIME (suc (g rs u)))) q) ∙ h))
+          (λ q.
+          let here : refusal TIME (suc (g rs u)) ≡ refusal TIME i = sym (ap (λ (b : Bool). cond b good (refusal TIME (suc (g rs u)))) q) ∙ h in
+          let same : g rs u ≡ o .number = omega (arith, ap (λ (v : Verdict). v .place) here, o .place) in
+          let bad-now = first-fits (bad rs u judged) 0 (countOf u) (omega (arith, leb-false (countOf u) (g rs u) q)) in
+          false≢true (sym (not-true (timelyBy judged (rowOf rs u) u (g rs u)) bad-now) ∙ ap (timelyBy judged (rowOf rs u) u) same ∙ timely-now))
+
+  headed-spares : (l : Label) (c : ℕ) (u : List ℕ) (i : ℕ) → WithoutTime l rs u i → inOrder (headTest judged l) (underBy judged rs c u) ≡ refusal TIME i → ⊥
+  unfolding inOrder
+  headed-spares l c u i (inl z) h =
+      let stands = ap allowed (no-time-judged l (z .1)) in
+      under-apart rs c u (sym (ap (λ (b : Bool). cond b (underBy judged rs c u) (refusal TIME 0)) stands) ∙ h ∙ ap (refusal TIME) (z .0))
+  headed-spares l c u i (inr o) h =
+      by-test (allowed (judged l))
+      (λ t. under-by rs c u i (unit-spares (By c) u i o) (sym (ap (λ (b : Bool). cond b (underBy judged rs c u) (refusal TIME 0)) t) ∙ h))
+      (λ t.
+      let first : refusal TIME 0 ≡ refusal TIME i = sym (ap (λ (b : Bool). cond b (underBy judged rs c u) (refusal TIME 0)) t) ∙ h in
+      absurd (omega (arith, ap (λ (v : Verdict). v .place) first, o .place)))
+
+  pub packet-spares : (p : List ℕ) (i : ℕ) → WithoutTime (labelOf (drop 6 p)) rs (unitOf p) i → packetBy judged rs p ≡ refusal TIME i → ⊥
+  unfolding inOrder
+  packet-spares p i w =
+      apart i (frameTests 1024 p) (contentBy judged rs p)
+      (other CUT i refl, (other START i refl, (other LENGTH i refl, (other CUT i refl, (other END i refl, (other SUM i refl, tt))))))
+      (apart i ((eqb (getD p 4 0) 1 or-else VERSION) ∷ (isCommand (commandOf p) or-else COMMAND) ∷ []) _
+      (other VERSION i refl, (other COMMAND i refl, tt))
+      (headed-spares (labelOf (drop 6 p)) (commandOf p) (unitOf p) i w))

@@ -33,11 +33,11 @@ use Rattle.unit.specs.declared.Carrier.the-variants.{Any}
 use Rattle.unit.specs.Objects.{timely}
 use Rattle.unit.specs.Units.{judgedUnit, judgedUnder}
 use Rattle.verdict.specs.declared.Verdict.{Verdict}
-use Rattle.verdict.specs.Orders.{_or-else_, inOrder, good, isGood}
+use Rattle.verdict.specs.Orders.{_or-else_, inOrder, refusal, good, isGood}
 use Rattle.verdict.specs.Refusals.{TIME, ROOM}
 use Rattle.demands.specs.Release13.{timelyBy, unitBy, underBy, contentBy, packetBy, writerBy, begunBy, newTimelyBy, objectBy, dueBy, replyBy, takenBy}
 use Rattle.demands.specs.Release13.{ObjectWithoutTime, WithoutTime, NewWithoutTime, Newly, Narrowed}
-use Rattle.demands.proofs.Narrowed.{over, unit-narrowed, under-narrowed, content-narrowed, writer-narrowed, begin-narrowed, object-narrowed}
+use Rattle.demands.proofs.Narrowed.{over, unit-narrowed, under-narrowed, content-narrowed, writer-narrowed, begin-narrowed, object-narrowed, unit-spares, packet-spares}
 
 -- at this release's rule the orders are this release's
 module _ (rs : List Row) where
@@ -130,6 +130,13 @@ unit-as-in-1-3 u = subst (Narrowed (ObjectWithoutTime rows u) (unitBy judgedIn13
 
 pub unit-under-as-in-1-3 : (c : ℕ) (u : List ℕ) → Narrowed (ObjectWithoutTime rows u) (underBy judgedIn13 rows c u) (judgedUnder rows c u)
 unit-under-as-in-1-3 c u = subst (Narrowed (ObjectWithoutTime rows u) (underBy judgedIn13 rows c u)) (under-now rows c u) (under-narrowed rows c u)
+
+-- and it is never TIME at such a place: so the two differ exactly where release 1.3 told TIME of six zeros
+pub packet-spares-zeros : (p : List ℕ) (i : ℕ) → WithoutTime (headerOf p .label) rows (unitOf p) i → judgedPacket rows p ≡ refusal TIME i → ⊥
+packet-spares-zeros p i w e = packet-spares rows p i w (packet-now rows p ∙ e)
+
+pub unit-spares-zeros : (u : List ℕ) (i : ℕ) → ObjectWithoutTime rows u i → judgedUnit rows Any u ≡ refusal TIME i → ⊥
+unit-spares-zeros u i o e = unit-spares rows Any u i o (unit-now rows Any u ∙ e)
 
 -- what is written, of the label that is handed over and of those in the unit that stands
 pub write-packet-as-in-1-3 : (out : List ℕ) (h : Header) (l : ℕ)
