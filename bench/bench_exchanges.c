@@ -242,6 +242,8 @@ static void bench_reply(void)
 static void bench_take(void)
 {
     take("take_packet: a confirm, place 14", reply_packet(TRAWNOSZ_COMMAND_CONFIRM, 0, from_second, 6, 1));
+    take("take_packet: 1,054 bytes, a confirm with 1,024, place 14",
+         reply_packet(TRAWNOSZ_COMMAND_CONFIRM, TRAWNOSZ_LONGEST_UNIT, from_second, 6, 1));
     take("take_packet: a deny, last place, resent", reply_packet(TRAWNOSZ_COMMAND_DENY, 0, from_second, 7, 1));
     take("take_packet: a deny from neither centre, refused", reply_packet(TRAWNOSZ_COMMAND_DENY, 0, from_neither, 7, 1));
     take("take_packet: 542 bytes, an answer, last place",

@@ -19,6 +19,13 @@ static size_t of_no_time(uint8_t command, size_t unit)
     return length;
 }
 
+/* A confirm that carries bytes which are no unit. */
+static size_t of_confirm(size_t bytes)
+{
+    memset(packet + 27, 7, bytes);
+    return make_packet(packet, TRAWNOSZ_COMMAND_CONFIRM, bytes);
+}
+
 /* A packet of which only frame and sum are judged, since its version is wrong. */
 static size_t of_version_2(size_t unit)
 {
@@ -86,6 +93,9 @@ static void bench_judge(void)
     judge("judge_packet: 542 bytes, 51 of type 1", with_units(1, 51, 10));
     judge("judge_packet: 1,052 bytes, 102 of type 1", with_units(1, 102, 10));
     judge("judge_packet: 1,044 bytes, 22 of type 2", with_units(2, 22, 46));
+    judge("judge_packet: 31 bytes, a confirm with 1", of_confirm(1));
+    judge("judge_packet: 542 bytes, a confirm with 512", of_confirm(512));
+    judge("judge_packet: 1,054 bytes, a confirm with 1,024", of_confirm(1024));
     judge("judge_packet: sum of 30 bytes, refused by version", of_version_2(0));
     judge("judge_packet: sum of 286 bytes, refused by version", of_version_2(256));
     judge("judge_packet: sum of 542 bytes, refused by version", of_version_2(512));
@@ -101,9 +111,12 @@ void bench_packets(void)
     read("read_packet: 39 bytes, type 21, no time",
          of_no_time(TRAWNOSZ_COMMAND_SEND, without_time(packet + 27, make_unit(packet + 27, 21, 1, 7))));
     read("read_packet: 1,052 bytes, 102 of type 1", with_units(1, 102, 10));
+    read("read_packet: 1,054 bytes, a confirm with 1,024", of_confirm(1024));
     place("find_unit: 39 bytes, type 21", with_units(21, 1, 7));
     place("find_unit: 1,052 bytes, 102 of type 1", with_units(1, 102, 10));
+    place("find_unit: 1,054 bytes, a confirm with 1,024", of_confirm(1024));
     answer("answer_to: 30 bytes, a confirm, no reply", make_packet(packet, TRAWNOSZ_COMMAND_CONFIRM, 0));
+    answer("answer_to: 1,054 bytes, a confirm with 1,024, no reply", of_confirm(1024));
     answer("answer_to: 39 bytes, type 21, confirmed", with_units(21, 1, 7));
     answer_with("answer_to: 39 bytes, type 21, confirmed with no time", with_units(21, 1, 7), no_time);
     answer("answer_to: 30 bytes of version 2, denied", of_version_2(0));

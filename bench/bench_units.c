@@ -76,6 +76,8 @@ static void bench_judge(void)
     judge("judge_unit: 8 bytes, type 90", make_unit(unit, 90, 1, 6));
     judge_under("judge_unit_under: 9 bytes, type 21", make_unit(unit, 21, 1, 7), TRAWNOSZ_COMMAND_SEND);
     judge_under("judge_unit_under: 1,022 bytes, 102 of type 1", make_unit(unit, 1, 102, 10), TRAWNOSZ_COMMAND_ANSWER);
+    judge_under("judge_unit_under: 1 byte, a confirm's", 1, TRAWNOSZ_COMMAND_CONFIRM);
+    judge_under("judge_unit_under: 1,024 bytes, a deny's", sizeof unit, TRAWNOSZ_COMMAND_DENY);
 }
 
 void bench_units(void)

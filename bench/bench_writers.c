@@ -117,6 +117,8 @@ void bench_writers(void)
     write_text("write_text: 255 bytes", 255);
     write_packet_text("write_packet_text: 255 bytes", 255);
     write_packet("write_packet: 30 bytes, a confirm", TRAWNOSZ_COMMAND_CONFIRM, 0);
+    write_packet("write_packet: 31 bytes, a deny with 1", TRAWNOSZ_COMMAND_DENY, 1);
+    write_packet("write_packet: 1,054 bytes, a deny with 1,024", TRAWNOSZ_COMMAND_DENY, TRAWNOSZ_LONGEST_UNIT);
     write_packet("write_packet: 39 bytes, type 21", TRAWNOSZ_COMMAND_SEND, units(27, 21, 1, 7));
     write_packet_with("write_packet: 39 bytes, type 21, no time", TRAWNOSZ_COMMAND_SEND, units_without_time(27, 21, 1, 7),
                       no_time);

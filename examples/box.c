@@ -4,7 +4,7 @@
  * a line for each thing that happened. It begins with an empty exchange table: what was open before it was started is
  * forgotten. In box.hex the second centre is silent: what was sent to it fails, and the first's exchanges go on as ever.
  * A panel without a clock has six zeros for a time: the box says so, sends them on as they came and never takes them for its
- * own clock.
+ * own clock. A centre's confirm may carry bytes: they end its exchange as an empty one does, and the box shows them as they are.
  */
 #include <stdio.h>
 #include <string.h>
@@ -165,7 +165,7 @@ static void set_clock(box *b, const uint8_t *unit, size_t length)
     printf(" %02u:%02u:%02u\n", b->clock.hour, b->clock.minute, b->clock.second);
 }
 
-/* What a good packet asks for that is no reply. */
+/* What a good packet brings. A confirm's or deny's bytes are no unit, so no call on units or objects is given them. */
 static void act(box *b, const uint8_t *packet, size_t length, const trawnosz_header *header)
 {
     trawnosz_found found = trawnosz_find_unit(packet, length);
@@ -183,6 +183,11 @@ static void act(box *b, const uint8_t *packet, size_t length, const trawnosz_hea
     case TRAWNOSZ_COMMAND_REQUEST:
         if (unit[0] == TRAWNOSZ_TYPE_READ_SYSTEM_STATE)
             answer(b, header, unit, unit_length);
+        break;
+    case TRAWNOSZ_COMMAND_CONFIRM:
+    case TRAWNOSZ_COMMAND_DENY:
+        if (unit_length > 0)
+            print_bytes("it carries", unit, unit_length);
         break;
     }
 }

@@ -26,12 +26,12 @@ extern "C" {
 #endif
 
 /* The release that this header is of; trawnosz_release tells that of the archive. */
-#define TRAWNOSZ_RELEASE "1.4"
+#define TRAWNOSZ_RELEASE "1.5"
 
 /* Sizes and limits. */
 enum {
     TRAWNOSZ_LONGEST_PACKET = 1054,  /* the hold's size, and what a receiver's buffer needs */
-    TRAWNOSZ_LONGEST_UNIT = 1024,
+    TRAWNOSZ_LONGEST_UNIT = 1024,    /* what a confirm or a deny carries has as many at most */
     TRAWNOSZ_LONGEST_TEXT = 255,     /* the text of type 26 */
     TRAWNOSZ_LONGEST_NAME = 9,       /* what any name needs of a row */
     TRAWNOSZ_LONGEST_TIMEOUT = 10,   /* a timeout is 1 to 10 ticks */
@@ -52,13 +52,13 @@ enum {
     TRAWNOSZ_REFUSED_ROOM = 2,     /* receiver's buffer under 1,054; other output shorter than what is written */
     TRAWNOSZ_REFUSED_CUT = 3,      /* packet under 30 bytes or not 30+L; device table ends early */
     TRAWNOSZ_REFUSED_START = 4,    /* packet does not begin 64, 64 */
-    TRAWNOSZ_REFUSED_LENGTH = 5,   /* L over 1,024; type 26 text over 255 */
+    TRAWNOSZ_REFUSED_LENGTH = 5,   /* L, or what a confirm or a deny carries, over 1,024; type 26 text over 255 */
     TRAWNOSZ_REFUSED_END = 6,      /* packet does not end 35, 35 */
     TRAWNOSZ_REFUSED_SUM = 7,      /* the sum is wrong */
     TRAWNOSZ_REFUSED_VERSION = 8,  /* main version not 1 */
     TRAWNOSZ_REFUSED_COMMAND = 9,  /* not 1 to 6; where an exchange is begun, not 1, 2 or 4 */
     TRAWNOSZ_REFUSED_TIME = 10,    /* a label neither in range nor six zeros; place 0 is the header, i+1 object i */
-    TRAWNOSZ_REFUSED_UNIT = 11,    /* 3 or 6: L above 0; other commands, or a unit alone: under 2 bytes */
+    TRAWNOSZ_REFUSED_UNIT = 11,    /* a unit under 2 bytes, under commands 1, 2, 4 and 5 or alone */
     TRAWNOSZ_REFUSED_TYPE = 12,    /* not in the table, or not carried by the command */
     TRAWNOSZ_REFUSED_COUNT = 13,   /* n is 0 or above its limit */
     TRAWNOSZ_REFUSED_SIZE = 14,    /* unit's size is not 2 plus its objects */
@@ -345,7 +345,12 @@ void trawnosz_fresh(uint8_t hold[1054]);
 trawnosz_served trawnosz_receive(uint8_t hold[1054], size_t held, size_t count, const uint8_t *piece, size_t piece_length,
                                  uint8_t *out, size_t out_length);
 
-/* ---- Packets. ---- */
+/* ---- Packets. ----
+ *
+ * A confirm's or deny's bytes are no unit: under commands 3 and 6 any 0 to 1,024 bytes stand where other packets have their
+ * unit. They are found, read with L and written as a unit is, but kept as bytes and not judged as a unit: UNIT, TYPE, COUNT,
+ * SIZE and TIME of an object, below, are for the other commands. The calls on objects, and the judge of a unit alone, are told
+ * no command: they refuse or read such bytes by their own rules, and what they then tell is not what the sender meant. */
 
 /* The judge of a packet: CUT, START, LENGTH, CUT, END, SUM, VERSION, COMMAND, TIME, UNIT, TYPE, COUNT, SIZE, TIME. */
 trawnosz_verdict trawnosz_judge_packet(const uint8_t *packet, size_t packet_length);
@@ -353,11 +358,12 @@ trawnosz_verdict trawnosz_judge_packet(const uint8_t *packet, size_t packet_leng
 /* A packet's fields and L; refuses as its judge. */
 trawnosz_opened trawnosz_read_packet(const uint8_t *packet, size_t packet_length);
 
-/* Where a packet's unit stands; refuses as its judge. */
+/* Where a packet's unit stands, of a confirm or a deny the bytes that it carries; refuses as its judge. */
 trawnosz_found trawnosz_find_unit(const uint8_t *packet, size_t packet_length);
 
-/* Writes a packet around the unit of `length` bytes that already stands from out[27] on: the 27 bytes before it and the 3
- * behind it. Refuses LENGTH, ROOM (under 30 + length), COMMAND, TIME, UNIT, TYPE, COUNT, SIZE, TIME. */
+/* Writes a packet around the unit, under 3 and 6 any bytes, of `length` bytes that already stands from out[27] on: the 27
+ * bytes before it and the 3 behind it. Refuses LENGTH, ROOM (under 30 + length), COMMAND, TIME, UNIT, TYPE, COUNT, SIZE,
+ * TIME. */
 trawnosz_verdict trawnosz_write_packet(uint8_t *out, size_t out_length, trawnosz_header header, size_t length);
 
 /* Writes an object into the unit of `length` bytes that stands from out[27] on. Refuses LENGTH, ROOM (under 27 + length),
@@ -368,8 +374,9 @@ trawnosz_verdict trawnosz_write_packet_object(uint8_t *out, size_t out_length, s
 /* Writes a unit of type 26 from out[27] on, 3 bytes and the text. Refuses LENGTH, ROOM (under 30 + the text). */
 trawnosz_verdict trawnosz_write_packet_text(uint8_t *out, size_t out_length, const uint8_t *text, size_t text_length);
 
-/* Writes the reply that is due to a packet, 30 bytes, to the front of `out`. Refuses CUT, START, LENGTH, CUT, END, SUM of
- * the packet; then, where a reply is due, TIME of the label (six zeros are none) and ROOM (under 30). */
+/* Writes the reply that is due to a packet, 30 bytes, to the front of `out`. It carries nothing, and none is due to a confirm
+ * or a deny, whatever that carries, good or refused. Refuses CUT, START, LENGTH, CUT, END, SUM of the packet; then, where a
+ * reply is due, TIME of the label (six zeros are none) and ROOM (under 30). */
 trawnosz_answer trawnosz_answer_to(const uint8_t *packet, size_t packet_length, trawnosz_label label, uint8_t *out,
                                    size_t out_length);
 
@@ -379,7 +386,8 @@ trawnosz_answer trawnosz_answer_to(const uint8_t *packet, size_t packet_length, 
 /* The judge of a unit alone: UNIT, TYPE, COUNT, SIZE, TIME. */
 trawnosz_verdict trawnosz_judge_unit(const uint8_t *unit, size_t unit_length);
 
-/* The judge of a unit under a command: COMMAND, then UNIT, TYPE, COUNT, SIZE, TIME. */
+/* The judge of a unit under a command: COMMAND, then UNIT, TYPE, COUNT, SIZE, TIME; under 3 and 6, where any bytes are taken,
+ * COMMAND and then only LENGTH (over 1,024). */
 trawnosz_verdict trawnosz_judge_unit_under(const uint8_t *unit, size_t unit_length, uint8_t command);
 
 /* The length of a unit of n objects of a type: 2 and n times the object's size. 0 where there is none (a type that is not in

@@ -137,7 +137,8 @@ size_t both_unit_length(struct trial *t, uint8_t type, size_t n);
 struct ind_devices both_judge_table(struct trial *t, const uint8_t *table, size_t size);
 struct ind_span both_find_place(struct trial *t, const uint8_t *table, size_t size, const uint8_t key[7]);
 
-/* ---- make.c: labels, a time or no time, and bad ones; good units and packets; spoil.c: one thing wrong in them ---- */
+/* ---- make.c: labels, a time or no time, and bad ones; good units, what confirms and denies carry, and packets; spoil.c: one
+ * thing wrong in them ---- */
 
 enum { MADE_MOST = 1400, TYPES = 14 };
 
@@ -161,6 +162,9 @@ size_t make_any_unit(struct trial *t, uint8_t *unit);
 uint8_t make_command(struct trial *t, uint8_t type);
 void make_head(struct trial *t, uint8_t *packet, size_t unit_size, uint8_t command);
 void seal(uint8_t *packet, size_t unit_size);
+uint8_t make_carrier(struct trial *t);
+size_t make_carried(struct trial *t, uint8_t *bytes);
+size_t make_inside(struct trial *t, uint8_t *unit, uint8_t *command);
 size_t make_any_packet(struct trial *t, uint8_t *packet);
 void make_object(struct trial *t, struct ind_object *object, uint8_t kind);
 void make_fields(struct trial *t, struct ind_packet *fields);
@@ -236,6 +240,7 @@ void expect_verdict(struct trial *t, struct ind_verdict verdict, enum ind_refusa
 
 void try_examples(struct trial *t);
 void try_label_examples(struct trial *t);
+void try_confirm_examples(struct trial *t);
 void try_exchange_examples(struct trial *t);
 void try_streams(struct trial *t);
 void try_noise(struct trial *t);

@@ -27,11 +27,35 @@ static void add_each_refusal(struct trial *t)
     add_refused(t, clock, 1, 0, 0, 7);
     add_refused(t, clock, 1, 9, 32, 2);
     add_refused(t, clock, 1, 32, 32, 5);
-    add_refused(t, clock, 1, 0, 0, 3);
     add_refused(t, NULL, 0, 0, 0, 2);
     add_refused(t, clock, 1, 0, 0, 1);
     add_refused(t, clock, 2, 0, 0, 2);
     add_refused(t, clock, 1, 27, 1, 2);
+}
+
+/* A confirm or a deny that carries bytes of one kind, good or, by its main version, refused. */
+static void add_carrier(struct trial *t, uint8_t command, uint8_t byte, size_t size, uint8_t version)
+{
+    uint8_t packet[MADE_MOST];
+    make_head(t, packet, size, command);
+    packet[4] = version;
+    memset(packet + 27, byte, size);
+    seal(packet, size);
+    add_bytes(&stream, packet, 30 + size);
+}
+
+/* "For 3 and 6 a unit of 0 to 1,024 bytes is accepted": also bytes that a packet begins or ends with, and a unit. */
+static void add_each_carrier(struct trial *t)
+{
+    static const size_t sizes[] = {0, 1, 2, 1023, 1024};
+    for (uint8_t command = 3; command <= 6; command += 3) {
+        for (size_t i = 0; i < 5; i++)
+            add_carrier(t, command, 0xFF, sizes[i], 1);
+        add_carrier(t, command, '@', 1024, 1);
+        add_carrier(t, command, '#', 40, 1);
+        add_carrier(t, command, 0xFF, 1, 2);
+        add_refused(t, made_type_of(28), 1, 0, 0, command);
+    }
 }
 
 /* A clock's packet with its own label and its object's as they are given. */
@@ -77,6 +101,7 @@ static void make_stream(struct trial *t)
     add_run(&stream, 0, 65535 + between(t, 1, 500));
     add_each_refusal(t);
     add_each_no_time(t);
+    add_each_carrier(t);
     for (int i = 0; i < 100; i++)
         add_segment(t, &stream);
     add_packet(t, &stream);

@@ -1,5 +1,5 @@
 /* The documents' own examples, with the answers that they state; those of request Q-1's labels stand in kind_label_examples.c,
- * those of exchanges in kind_exchange_examples.c. */
+ * those of request Q-2's confirms in kind_confirm_examples.c, those of exchanges in kind_exchange_examples.c. */
 #include "comparing.h"
 
 #include <string.h>
@@ -54,7 +54,8 @@ static void try_packet_examples(struct trial *t)
     changed(t, example_a, 9, 32, true, IND_TIME);
     changed(t, example_a, 4, 2, true, IND_VERSION);
     changed(t, example_a, 26, 2, true, IND_UNIT);
-    changed(t, example_b, 26, 3, true, IND_UNIT);
+    changed(t, example_b, 26, 3, true, IND_GOOD);
+    changed(t, example_b, 26, 6, true, IND_GOOD);
     changed(t, example_b, 26, 4, true, IND_TYPE);
     changed(t, example_a, 0, 0x41, false, IND_START);
     changed(t, example_a, 25, 8, false, IND_LENGTH);
@@ -165,6 +166,7 @@ void try_examples(struct trial *t)
     try_largest_n(t);
     try_receiver_examples(t);
     try_label_examples(t);
+    try_confirm_examples(t);
     try_exchange_examples(t);
     try_table_examples(t);
     try_reply_examples(t);

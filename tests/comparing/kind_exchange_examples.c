@@ -1,4 +1,5 @@
-/* The documents' examples and readings of exchanges, requests among them, with the answers that they state. */
+/* The documents' examples and readings of exchanges, requests Q-1, Q-2, Q-8 and Q-11 among them, with the answers that they
+ * state. */
 #include "comparing.h"
 
 #include <string.h>
@@ -73,6 +74,8 @@ static void try_refused_begins(struct trial *t)
     refused(t, &book, 5, "010101020000001E080F0618", 12, 42, IND_COMMAND);
     refused(t, &book, 3, "", 0, 30, IND_COMMAND);
     refused(t, &book, 6, "", 0, 30, IND_COMMAND);
+    refused(t, &book, 3, "FF", 1, 31, IND_COMMAND);
+    refused(t, &book, 6, example_b_unit, 9, 39, IND_COMMAND);
     refused(t, &book, 5, example_b_unit, 9, 38, IND_ROOM);
     refused(t, &book, 5, example_b_unit, 1025, 0, IND_LENGTH);
     refused(t, &book, 2, example_b_unit, 9, 38, IND_ROOM);

@@ -2,6 +2,8 @@
  * one table. */
 #include "comparing.h"
 
+#include <string.h>
+
 /* A good packet of the command, begun on a table for either centre. */
 static void begin_good(struct trial *t, struct ind_book *book, uint8_t command)
 {
@@ -54,6 +56,28 @@ void try_exchange_states(struct trial *t)
     }
 }
 
+/* A good confirm or deny does what it does whatever it carries: taken with bytes and without, by the table as it was. */
+static void take_carrier(struct trial *t, const struct ind_book *book)
+{
+    struct ind_book one = *book, other = *book;
+    struct made_reply reply = make_reply(t, book);
+    uint8_t packet[MADE_MOST];
+    size_t size = make_carried(t, packet + 27);
+    make_head(t, packet, size, make_carrier(t));
+    packet[2] = (uint8_t)reply.serial;
+    packet[3] = (uint8_t)(reply.serial >> 8);
+    memcpy(packet + 12, reply.source, 6);
+    seal(packet, size);
+    struct ind_turn with = both_take_packet(t, &one, packet, 30 + size);
+    packet[24] = 0;
+    packet[25] = 0;
+    seal(packet, 0);
+    struct ind_turn without = both_take_packet(t, &other, packet, 30);
+    if (with.verdict.refusal != without.verdict.refusal || with.verdict.place != without.verdict.place
+        || with.place != without.place || with.outcome != without.outcome || !same_book(&one, &other))
+        differ(t, "a confirm or a deny that carries something is not taken as an empty one is");
+}
+
 /* Packets taken by one table, each by the table as it was, and a few by the table as the one before left it. */
 void try_takes(struct trial *t)
 {
@@ -67,6 +91,7 @@ void try_takes(struct trial *t)
         size_t size = make_reply_packet(t, &book, packet);
         both_take_packet(t, (copy = book, &copy), packet, size);
     }
+    take_carrier(t, &book);
     for (int i = 0; i < 8; i++) {
         size_t size = make_reply_packet(t, &book, packet);
         both_take_packet(t, &book, packet, size);

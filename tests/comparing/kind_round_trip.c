@@ -36,6 +36,25 @@ static void write_objects_again(struct trial *t, uint8_t *again, size_t room, co
     }
 }
 
+static bool carries_bytes(const uint8_t *packet)
+{
+    return packet[26] == IND_COMMAND_CONFIRM || packet[26] == IND_COMMAND_DENY;
+}
+
+/* What is found in a packet, put where it must stand to be written: object by object or, for 3 and 6, "kept as bytes". */
+static void put_inside_again(struct trial *t, uint8_t *again, const uint8_t *packet, size_t size)
+{
+    struct ind_span unit = both_unit_place(t, packet, size);
+    if (unit.start != 27 || unit.length != size - 30)
+        differ(t, "the unit of an accepted packet is not found from byte 28 on with its L");
+    if (carries_bytes(packet)) {
+        memcpy(again + 27, packet + unit.start, unit.length);
+        return;
+    }
+    memcpy(again + 27, packet + 27, 2);
+    write_objects_again(t, again, size, packet + unit.start, unit.length);
+}
+
 /* "An accepted packet, written again from its fields, has the same bytes." They are written over bytes that are not 0, so that
  * six zeros are seen to be written. */
 static void read_and_write(struct trial *t, const uint8_t *packet, size_t size)
@@ -43,13 +62,9 @@ static void read_and_write(struct trial *t, const uint8_t *packet, size_t size)
     uint8_t again[MADE_MOST];
     memset(again, 0xEE, sizeof again);
     struct ind_packet fields = both_read_packet(t, packet, size);
-    struct ind_span unit = both_unit_place(t, packet, size);
     if (fields.shown != shown_of(packet + 6))
         differ(t, "what is shown of a packet's label is not what its bytes are");
-    if (unit.length > 0) {
-        memcpy(again + 27, packet + 27, 2);
-        write_objects_again(t, again, size, packet + unit.start, unit.length);
-    }
+    put_inside_again(t, again, packet, size);
     if (both_write_packet(t, again, size, &fields).refusal)
         differ(t, "the fields of an accepted packet are not taken by the writer");
     if (memcmp(again, packet, size) != 0)
@@ -77,7 +92,7 @@ static void write_and_read(struct trial *t, const uint8_t *unit, size_t unit_siz
     both_write_packet(t, out, 30 + unit_size, &fields);
     struct ind_packet back = both_read_packet(t, out, 30 + unit_size);
     if (!same_fields(&back, &fields) || memcmp(out + 27, unit, unit_size) != 0)
-        differ(t, "a written packet does not read back as its fields");
+        differ(t, "a written packet does not read back as its fields and its unit");
 }
 
 /* What a good begin must have written: the draft's fields under the serial that it gave, to the centre that it named. */
@@ -117,10 +132,18 @@ static void begin_and_read(struct trial *t)
         differ(t, "the reply to a begun packet does not fit its exchange");
 }
 
+/* What a confirm or a deny carries, written and read back. */
+static void carry_and_read(struct trial *t)
+{
+    uint8_t carried[MADE_MOST];
+    size_t size = make_carried(t, carried);
+    write_and_read(t, carried, size, make_carrier(t));
+}
+
 /* "Panels without a clock": six zeros for every label of a good packet. */
 static void clear_labels(uint8_t *packet, size_t size)
 {
-    const struct made_type *type = size > 30 ? made_type_of(packet[27]) : NULL;
+    const struct made_type *type = carries_bytes(packet) ? NULL : made_type_of(packet[27]);
     memset(packet + 6, 0, 6);
     for (size_t i = 0; type && type->label >= 0 && i < packet[28]; i++)
         memset(packet + 29 + i * type->size + (size_t)type->label, 0, 6);
@@ -135,5 +158,6 @@ void try_round_trip(struct trial *t)
         clear_labels(packet, size);
     read_and_write(t, packet, size);
     write_and_read(t, packet + 27, size - 30, packet[26]);
+    carry_and_read(t);
     begin_and_read(t);
 }

@@ -37,6 +37,20 @@ static void ask_all(struct trial *t, const uint8_t *unit, size_t size)
     ask_for_objects(t, unit, size);
 }
 
+/* "For 3 and 6 a unit of 0 to 1,024 bytes is accepted": any bytes, or such as begin with a good unit, of lengths around the
+ * most, and from time to time of some that are far above it but for their low bytes. */
+static void judge_around_most(struct trial *t)
+{
+    static const size_t lengths[] = {0, 1, 2, 1022, 1023, 1024, 1025, 1026, 1279, 1280, 2048, 65535, 65536, 65537, 66560};
+    static uint8_t bytes[66560];
+    size_t size = lengths[below(t, t->turn % 16 == 0 ? 15 : 11)];
+    fill(t, bytes, size);
+    if (chance(t, 50))
+        make_any_unit(t, bytes);
+    for (unsigned command = 0; command <= 7; command++)
+        both_judge_unit_under(t, bytes, size, (uint8_t)command);
+}
+
 void try_units(struct trial *t)
 {
     uint8_t unit[MADE_MOST];
@@ -46,6 +60,8 @@ void try_units(struct trial *t)
     if (chance(t, 20))
         spoil_unit(t, unit, &size);
     ask_all(t, unit, size);
+    if (chance(t, 50))
+        judge_around_most(t);
 }
 
 /* Every length from 0 to 1,100 in turn, under a type and an n that mostly are in the table. */

@@ -104,7 +104,7 @@ void try_text_writers(struct trial *t)
     both_write_packet_text(t, out, choose_room(t, 30 + size, sizeof out), text, size);
 }
 
-/* Every L from 0 to 1,100 in turn, and units that stand right, under any command. */
+/* Every L from 0 to 1,100 in turn, units that stand right, and what confirms and denies carry, under any command. */
 void try_packet_writer(struct trial *t)
 {
     static const size_t lengths[] = {1024, 1025, 65536, (size_t)1 << 32, SIZE_MAX - 30, SIZE_MAX - 29, SIZE_MAX};
@@ -112,8 +112,7 @@ void try_packet_writer(struct trial *t)
     struct ind_packet fields;
     fill(t, out, sizeof out);
     make_fields(t, &fields);
-    fields.unit_size = make_any_unit(t, out + 27);
-    fields.command = make_command(t, out[27]);
+    fields.unit_size = make_inside(t, out + 27, &fields.command);
     if (chance(t, 40))
         spoil_unit(t, out + 27, &fields.unit_size);
     if (chance(t, 20))

@@ -1,4 +1,4 @@
-/* Labels good and bad, good units, packets and fields, often at their limits. */
+/* Labels good and bad, good units, what confirms and denies carry, packets and fields, often at their limits. */
 #include "comparing.h"
 
 #include <string.h>
@@ -138,14 +138,43 @@ void make_head(struct trial *t, uint8_t *packet, size_t unit_size, uint8_t comma
     packet[26] = command;
 }
 
+/* A confirm or a deny. */
+uint8_t make_carrier(struct trial *t)
+{
+    return chance(t, 50) ? 3 : 6;
+}
+
+/* What a confirm or a deny carries: nothing, a good unit, or any bytes, often of the fewest or the most, and now and then
+ * such as a packet begins or ends with. */
+size_t make_carried(struct trial *t, uint8_t *bytes)
+{
+    static const size_t sizes[] = {0, 0, 1, 1, 2, 3, 1023, 1024};
+    if (chance(t, 20))
+        return make_any_unit(t, bytes);
+    size_t size = chance(t, 60) ? sizes[below(t, 8)] : below(t, chance(t, 85) ? 64 : 1025);
+    if (chance(t, 10))
+        memset(bytes, chance(t, 50) ? '@' : '#', size);
+    else
+        fill(t, bytes, size);
+    return size;
+}
+
+/* What stands in a good packet from byte 28 on, and the command that it stands under. */
+size_t make_inside(struct trial *t, uint8_t *unit, uint8_t *command)
+{
+    if (chance(t, 20)) {
+        *command = make_carrier(t);
+        return make_carried(t, unit);
+    }
+    size_t size = make_any_unit(t, unit);
+    *command = make_command(t, unit[0]);
+    return size;
+}
+
 size_t make_any_packet(struct trial *t, uint8_t *packet)
 {
-    size_t unit_size = 0;
-    uint8_t command = chance(t, 50) ? 3 : 6;
-    if (chance(t, 85)) {
-        unit_size = make_any_unit(t, packet + 27);
-        command = make_command(t, packet[27]);
-    }
+    uint8_t command;
+    size_t unit_size = make_inside(t, packet + 27, &command);
     make_head(t, packet, unit_size, command);
     seal(packet, unit_size);
     return 30 + unit_size;

@@ -63,7 +63,8 @@ void add_hostile_start(struct trial *t, struct stream *stream)
     add_bytes(stream, packet + 27, length + 3);
 }
 
-/* A packet of L bytes that hold whole packets and starts; refused by END or SUM, or good. */
+/* A packet of L bytes that hold whole packets and starts; refused by END or SUM, or in a right frame, where the judge takes
+ * it as a confirm or a deny and not as a send. */
 void add_nested(struct trial *t, struct stream *stream)
 {
     uint8_t packet[2 * MADE_MOST];
@@ -78,7 +79,7 @@ void add_nested(struct trial *t, struct stream *stream)
         memcpy(packet + 27 + length, inner, size);
         length += size;
     }
-    make_head(t, packet, length, 2);
+    make_head(t, packet, length, chance(t, 50) ? 2 : make_carrier(t));
     seal(packet, length);
     size_t wrong = below(t, 5);
     if (wrong < 3)

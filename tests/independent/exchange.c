@@ -148,9 +148,9 @@ struct ind_turn ind_hear(struct ind_book *book, enum ind_told told, const uint8_
     return turn;
 }
 
-/* A packet given as its bytes: a good confirm, answer or deny is that reply under its serial, "a bad answer (command 5,
- * refused at VERSION or later)" one under the serial that its bytes have, each from the source that stands in bytes 13 to
- * 18; all else is told as the judge judges it. */
+/* A packet given as its bytes: a good confirm, answer or deny, whatever it carries, is that reply under its serial, "a bad
+ * answer (command 5, refused at VERSION or later)" one under the serial that its bytes have, each from the source that stands
+ * in bytes 13 to 18; all else is told as the judge judges it. */
 struct ind_turn ind_take(struct ind_book *book, const uint8_t *packet, size_t size)
 {
     struct ind_turn turn = {ind_judge_packet(packet, size), 0, IND_NOTHING};

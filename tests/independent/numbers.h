@@ -6,7 +6,7 @@
 /* Sizes and limits. */
 enum {
     IND_LONGEST_PACKET = 1054,  /* "A packet has 30+L bytes, 1,054 at most." */
-    IND_LONGEST_UNIT = 1024,    /* "L, length of the unit, 0 to 1,024" */
+    IND_LONGEST_UNIT = 1024,    /* "L, length of the unit, 0 to 1,024", for 3 and 6 too */
     IND_FRAME_BYTES = 30,       /* "A packet has 30+L bytes" */
     IND_LONGEST_TEXT = 255,     /* "from a text of 0 to 255 bytes" */
     IND_LONGEST_NAME = 9,       /* CONFIRMED has nine letters */

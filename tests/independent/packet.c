@@ -70,7 +70,7 @@ struct ind_packet ind_read_packet(const uint8_t *packet, size_t size)
     return fields;
 }
 
-/* "the part of the packet that begins at byte 28". */
+/* "the part of the packet that begins at byte 28", of a confirm or a deny the bytes that it carries, "kept as bytes". */
 struct ind_span ind_unit_span(const uint8_t *packet, size_t size)
 {
     struct ind_verdict verdict = ind_judge_packet(packet, size);

@@ -24,7 +24,8 @@ void ind_frame(uint8_t *out, const struct ind_packet *fields)
     out[29 + unit_size] = 35;
 }
 
-/* "Packet writer: LENGTH, ROOM, then the judge's order from COMMAND". */
+/* "Packet writer: LENGTH, ROOM, then the judge's order from COMMAND"; by request Q-2 a confirm and a deny may carry bytes too,
+ * "and the writer can send one". */
 struct ind_verdict ind_write_packet(uint8_t *out, size_t room, const struct ind_packet *fields)
 {
     if (fields->unit_size > IND_LONGEST_UNIT)

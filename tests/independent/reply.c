@@ -43,7 +43,8 @@ bool ind_before_version(enum ind_refusal refusal)
     }
 }
 
-/* "A reply copies serial and user version, swaps the addresses, takes the caller's label and an empty unit." */
+/* "A reply copies serial and user version, swaps the addresses, takes the caller's label and an empty unit"; by request Q-2
+ * "Our own replies stay empty." */
 static void write_reply(uint8_t *out, const uint8_t *packet, const uint8_t label[6], uint8_t command)
 {
     struct ind_packet reply;

@@ -7,7 +7,7 @@ use Rattle.fields.specs.Layouts.{labelIn, fieldsFrom}
 use Rattle.frame.specs.Frame.{unitLength, ended, summed}
 use Rattle.kinds.specs.Table.{table, rowsOf, rows, findRow, entryOf}
 use Rattle.label.specs.declared.Label.{Label}
-use Rattle.label.specs.Times.{labelOf, judged, judgedIn13, inRanges, shownAs, SHOWN_NOTHING, SHOWN_NO_LABEL}
+use Rattle.label.specs.Times.{labelOf, judged, inRanges, shownAs, SHOWN_NOTHING, SHOWN_NO_LABEL}
 use Rattle.label.specs.declared.Judgement.the-variants.{Time, NoTime}
 use Rattle.octets.specs.Numbers.{lowFirst, bytesOf}
 use Rattle.octets.specs.Parts.{part, putAt}
@@ -27,7 +27,7 @@ use Rattle.unit.specs.Units.{judgedUnit, judgedUnder}
 use Rattle.verdict.specs.declared.Verdict.{Verdict}
 use Rattle.verdict.specs.Orders.{inOrder, refusal, good, partBy}
 use Rattle.verdict.specs.Refusals.{TIME}
-use Rattle.demands.specs.Release13.{timelyBy, packetBy}
+use Rattle.demands.specs.Rules.{in13, timelyBy, packetBy}
 
 abbrev of : Verdict → List ℕ
 of v = v .number ∷ v .place ∷ []
@@ -59,11 +59,11 @@ abbrev pub checked-labels : List (List ℕ × List ℕ)
 checked-labels =
     -- "A with six zeros as label, sum 0A: good, before it was TIME 0"
     (packet (labelled zeros 0x0A), taken (shownAs NoTime))
-    ∷ (of (packetBy judgedIn13 rows (labelled zeros 0x0A)), of (refusal TIME 0))
+    ∷ (of (packetBy in13 rows (labelled zeros 0x0A)), of (refusal TIME 0))
     -- "B with six zeros as its object's label, sum 7D: good"
     ∷ (packet (within zeros 0x7D), taken (shownAs Time))
     ∷ (object (unitOf (within zeros 0x7D)), taken (shownAs NoTime))
-    ∷ (of (packetBy judgedIn13 rows (within zeros 0x7D)), of (refusal TIME 1))
+    ∷ (of (packetBy in13 rows (within zeros 0x7D)), of (refusal TIME 1))
     -- "`00 00 00 00 01 00`, `00 00 00 00 00 18`, `00 00 00 01 00 00`, `01 00 00 00 00 00`: TIME; `00 00 00 01 01 00`: a time", in the header
     ∷ (packet (labelled (0 ∷ 0 ∷ 0 ∷ 0 ∷ 1 ∷ 0 ∷ []) 0x0B), refused 0)
     ∷ (packet (labelled (0 ∷ 0 ∷ 0 ∷ 0 ∷ 0 ∷ 0x18 ∷ []) 0x22), refused 0)

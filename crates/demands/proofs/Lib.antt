@@ -1,10 +1,12 @@
 pub mod Determined
 pub mod Lent
 pub mod CheckedLabels
+pub mod CheckedConfirms
 pub mod Checked
 pub mod Demand1
 pub mod Demand2
 pub mod NoTime
+pub mod Confirms
 pub mod Demand2Exchanges
 pub mod BoxLogs
 pub mod AlwaysEnds
@@ -13,4 +15,6 @@ pub mod Demand3
 pub mod DeviceTable
 pub mod Narrowed
 pub mod Release13
+pub mod ThisRelease
+pub mod Release14
 pub mod Exported

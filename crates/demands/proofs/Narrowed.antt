@@ -31,12 +31,12 @@ use Rattle.unit.specs.declared.Carrier.{Carrier}
 use Rattle.unit.specs.declared.Carrier.the-variants.{Any, By}
 use Rattle.unit.specs.Objects.{typeOf, countOf}
 use Rattle.unit.specs.Places.{numberTest}
-use Rattle.unit.specs.Units.{rowOf, shapeTests, isBare, bareTests, isCommand}
+use Rattle.unit.specs.Units.{rowOf, shapeTests, isKept, emptyTests, isCommand}
 use Rattle.verdict.specs.declared.Verdict.{Verdict}
 use Rattle.verdict.specs.Orders.{Test, _or-else_, inOrder, refusal, good}
 use Rattle.verdict.specs.Refusals.{CUT, START, LENGTH, END, SUM, VERSION, COMMAND, TIME, UNIT, TYPE, COUNT, SIZE, KIND, TEXT}
-use Rattle.demands.specs.Release13.{timelyBy, timeTestBy, unitBy, underBy, headTest, contentBy, packetBy, writerBy, begunBy, newTimelyBy, objectBy}
-use Rattle.demands.specs.Release13.{Rule, labelAt, ObjectWithoutTime, WithoutTime, NewWithoutTime, Narrowed}
+use Rattle.demands.specs.Rules.{Rule, in13, in14, labelAt, timelyBy, timeTestBy, unitBy, underBy, headTest, contentBy, packetBy, writerBy, begunBy, newTimelyBy, objectBy}
+use Rattle.demands.specs.Release13.{ObjectWithoutTime, WithoutTime, NewWithoutTime, Narrowed}
 
 -- what an order makes of two verdicts
 module _ (P : ℕ → Type 0) (before now : Verdict) (d : Narrowed P before now) where
@@ -170,23 +170,23 @@ module _ (rs : List Row) where
   unfolding inOrder f g bad
   unit-narrowed by u = over (ObjectWithoutTime rs u) (at rs u (f rs u)) (at rs u (g rs u)) (times-narrowed rs u) (shapeTests rs by u)
 
-  pub under-narrowed : (c : ℕ) (u : List ℕ) → Narrowed (ObjectWithoutTime rs u) (underBy judgedIn13 rs c u) (underBy judged rs c u)
-  under-narrowed c u = over (ObjectWithoutTime rs u) _ _ (go (isBare c)) ((isCommand c or-else COMMAND) ∷ [])
+  pub under-narrowed : (c : ℕ) (u : List ℕ) → Narrowed (ObjectWithoutTime rs u) (underBy in13 rs c u) (underBy in14 rs c u)
+  under-narrowed c u = over (ObjectWithoutTime rs u) _ _ (go (isKept c)) ((isCommand c or-else COMMAND) ∷ [])
     where
-      go : (b : Bool) → Narrowed (ObjectWithoutTime rs u) (cond b (inOrder (bareTests u) good) (unitBy judgedIn13 rs (By c) u)) (cond b (inOrder (bareTests u) good) (unitBy judged rs (By c) u))
+      go : (b : Bool) → Narrowed (ObjectWithoutTime rs u) (cond b (inOrder (emptyTests u) good) (unitBy judgedIn13 rs (By c) u)) (cond b (inOrder (emptyTests u) good) (unitBy judged rs (By c) u))
       go true = inl refl
       go false = unit-narrowed (By c) u
 
   -- what a unit under a command is not refused for where the unit by itself is not
-  under-by : (c : ℕ) (u : List ℕ) (i : ℕ) → (unitBy judged rs (By c) u ≡ refusal TIME i → ⊥) → underBy judged rs c u ≡ refusal TIME i → ⊥
-  under-by c u i not-so = apart i ((isCommand c or-else COMMAND) ∷ []) _ (other COMMAND i refl, tt) (go (isBare c))
+  under-by : (c : ℕ) (u : List ℕ) (i : ℕ) → (unitBy judged rs (By c) u ≡ refusal TIME i → ⊥) → underBy in14 rs c u ≡ refusal TIME i → ⊥
+  under-by c u i not-so = apart i ((isCommand c or-else COMMAND) ∷ []) _ (other COMMAND i refl, tt) (go (isKept c))
     where
-      go : (b : Bool) → cond b (inOrder (bareTests u) good) (unitBy judged rs (By c) u) ≡ refusal TIME i → ⊥
-      go true = apart i (bareTests u) good (other UNIT i refl, tt) (other 0 i refl)
+      go : (b : Bool) → cond b (inOrder (emptyTests u) good) (unitBy judged rs (By c) u) ≡ refusal TIME i → ⊥
+      go true = apart i (emptyTests u) good (other UNIT i refl, tt) (other 0 i refl)
       go false = not-so
 
   -- its TIME is never at place 0
-  under-apart : (c : ℕ) (u : List ℕ) → underBy judged rs c u ≡ refusal TIME 0 → ⊥
+  under-apart : (c : ℕ) (u : List ℕ) → underBy in14 rs c u ≡ refusal TIME 0 → ⊥
   unfolding inOrder
   under-apart c u =
       under-by c u 0
@@ -195,28 +195,28 @@ module _ (rs : List Row) where
 
   -- the header's label, then the unit under its command
   headed-narrowed : (l : Label) (c : ℕ) (u : List ℕ)
-      → Narrowed (WithoutTime l rs u) (inOrder (headTest judgedIn13 l) (underBy judgedIn13 rs c u)) (inOrder (headTest judged l) (underBy judged rs c u))
+      → Narrowed (WithoutTime l rs u) (inOrder (headTest judgedIn13 l) (underBy in13 rs c u)) (inOrder (headTest judged l) (underBy in14 rs c u))
   unfolding inOrder
   headed-narrowed l c u =
-      label-test (WithoutTime l rs u) (underBy judgedIn13 rs c u) (underBy judged rs c u)
+      label-test (WithoutTime l rs u) (underBy in13 rs c u) (underBy in14 rs c u)
       (more (ObjectWithoutTime rs u) (WithoutTime l rs u) _ _ (λ i o. inr o) (under-narrowed c u))
       0 (allowed (judgedIn13 l)) (allowed (judged l)) (isNoTime l) (stands-now l) (λ z. inl (refl, z)) (under-apart c u)
 
-  pub content-narrowed : (p : List ℕ) → Narrowed (WithoutTime (labelOf (drop 6 p)) rs (unitOf p)) (contentBy judgedIn13 rs p) (contentBy judged rs p)
+  pub content-narrowed : (p : List ℕ) → Narrowed (WithoutTime (labelOf (drop 6 p)) rs (unitOf p)) (contentBy in13 rs p) (contentBy in14 rs p)
   unfolding inOrder
   content-narrowed p =
       over (WithoutTime (labelOf (drop 6 p)) rs (unitOf p)) _ _ (headed-narrowed (labelOf (drop 6 p)) (commandOf p) (unitOf p))
       ((eqb (getD p 4 0) 1 or-else VERSION) ∷ (isCommand (commandOf p) or-else COMMAND) ∷ [])
 
   pub writer-narrowed : (out : List ℕ) (h : Header) (l : ℕ)
-      → Narrowed (WithoutTime (h .label) rs (part out 27 (27 + l))) (writerBy judgedIn13 rs out h l) (writerBy judged rs out h l)
+      → Narrowed (WithoutTime (h .label) rs (part out 27 (27 + l))) (writerBy in13 rs out h l) (writerBy in14 rs out h l)
   unfolding inOrder
   writer-narrowed out h l =
       let P = WithoutTime (h .label) rs (part out 27 (27 + l)) in
       over P _ _ (over P _ _ (headed-narrowed (h .label) (h .command) (part out 27 (27 + l))) ((isCommand (h .command) or-else COMMAND) ∷ [])) (roomTests out l 30)
 
   pub begin-narrowed : (x : Exchanges) (c : ℕ) (out : List ℕ) (d : Draft) (l : ℕ)
-      → Narrowed (WithoutTime (d .label) rs (part out 27 (27 + l))) (begunBy judgedIn13 rs x c out d l) (begunBy judged rs x c out d l)
+      → Narrowed (WithoutTime (d .label) rs (part out 27 (27 + l))) (begunBy in13 rs x c out d l) (begunBy in14 rs x c out d l)
   begin-narrowed x c out d l =
       let P = WithoutTime (d .label) rs (part out 27 (27 + l)) in
       over P _ _ (over P _ _ (writer-narrowed out (headed x c d (found x c .serial)) l) (openingTests out d l)) (beginTests x c)
@@ -260,22 +260,22 @@ module _ (rs : List Row) where
           let bad-now = first-fits (bad rs u judged) 0 (countOf u) (omega (arith, leb-false (countOf u) (g rs u) q)) in
           false≢true (sym (not-true (timelyBy judged (rowOf rs u) u (g rs u)) bad-now) ∙ ap (timelyBy judged (rowOf rs u) u) same ∙ timely-now))
 
-  headed-spares : (l : Label) (c : ℕ) (u : List ℕ) (i : ℕ) → WithoutTime l rs u i → inOrder (headTest judged l) (underBy judged rs c u) ≡ refusal TIME i → ⊥
+  headed-spares : (l : Label) (c : ℕ) (u : List ℕ) (i : ℕ) → WithoutTime l rs u i → inOrder (headTest judged l) (underBy in14 rs c u) ≡ refusal TIME i → ⊥
   unfolding inOrder
   headed-spares l c u i (inl z) h =
       let stands = ap allowed (no-time-judged l (z .1)) in
-      under-apart rs c u (sym (ap (λ (b : Bool). cond b (underBy judged rs c u) (refusal TIME 0)) stands) ∙ h ∙ ap (refusal TIME) (z .0))
+      under-apart rs c u (sym (ap (λ (b : Bool). cond b (underBy in14 rs c u) (refusal TIME 0)) stands) ∙ h ∙ ap (refusal TIME) (z .0))
   headed-spares l c u i (inr o) h =
       by-test (allowed (judged l))
-      (λ t. under-by rs c u i (unit-spares (By c) u i o) (sym (ap (λ (b : Bool). cond b (underBy judged rs c u) (refusal TIME 0)) t) ∙ h))
+      (λ t. under-by rs c u i (unit-spares (By c) u i o) (sym (ap (λ (b : Bool). cond b (underBy in14 rs c u) (refusal TIME 0)) t) ∙ h))
       (λ t.
-      let first : refusal TIME 0 ≡ refusal TIME i = sym (ap (λ (b : Bool). cond b (underBy judged rs c u) (refusal TIME 0)) t) ∙ h in
+      let first : refusal TIME 0 ≡ refusal TIME i = sym (ap (λ (b : Bool). cond b (underBy in14 rs c u) (refusal TIME 0)) t) ∙ h in
       absurd (omega (arith, ap (λ (v : Verdict). v .place) first, o .place)))
 
-  pub packet-spares : (p : List ℕ) (i : ℕ) → WithoutTime (labelOf (drop 6 p)) rs (unitOf p) i → packetBy judged rs p ≡ refusal TIME i → ⊥
+  pub packet-spares : (p : List ℕ) (i : ℕ) → WithoutTime (labelOf (drop 6 p)) rs (unitOf p) i → packetBy in14 rs p ≡ refusal TIME i → ⊥
   unfolding inOrder
   packet-spares p i w =
-      apart i (frameTests 1024 p) (contentBy judged rs p)
+      apart i (frameTests 1024 p) (contentBy in14 rs p)
       (other CUT i refl, (other START i refl, (other LENGTH i refl, (other CUT i refl, (other END i refl, (other SUM i refl, tt))))))
       (apart i ((eqb (getD p 4 0) 1 or-else VERSION) ∷ (isCommand (commandOf p) or-else COMMAND) ∷ []) _
       (other VERSION i refl, (other COMMAND i refl, tt))

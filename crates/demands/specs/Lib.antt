@@ -1,1 +1,3 @@
+pub mod Rules
 pub mod Release13
+pub mod Release14

@@ -3,7 +3,7 @@
 -- Assumes nothing.
 use Prim.Native.Nat.{ℕ, _+_, _-_, _≤_, _<_}
 use native.Mathlib.Omega.{arith}
-use mathlib.Core.Bool.{Bool, true, false, not, _&&_, cond, and-eq-true-iff, false≢true}
+use mathlib.Core.Bool.{Bool, true, false, not, _&&_, and-eq-true-iff, false≢true}
 use mathlib.Core.List.{List, [], _∷_, map}
 use mathlib.Core.Path.{_≡_, refl, sym, ap, subst, subst⁻¹, _∙_}
 use borrow.Author.Tests.{not-true, ltb-true, ltb-false, leb-true, eqb-true, eqb-false}
@@ -18,11 +18,10 @@ use Rattle.kinds.specs.declared.Row.{Row}
 use Rattle.kinds.specs.Table.{rows}
 use Rattle.output.specs.Writing.{roomTests, fieldTests, packetVerdict}
 use Rattle.packet.specs.declared.Header.{Header}
-use Rattle.unit.specs.declared.Carrier.the-variants.{By}
-use Rattle.unit.specs.Units.{unitTests, judgedUnit, isBare, bareTests, isCommand, judgedUnder}
+use Rattle.unit.proofs.Under.{under-other}
 use Rattle.verdict.specs.declared.Verdict.{Verdict}
-use Rattle.verdict.specs.Refusals.{STATE, FULL, CENTRE, COMMAND}
-use Rattle.verdict.specs.Orders.{_or-else_, good, isGood, inOrder}
+use Rattle.verdict.specs.Refusals.{STATE, FULL, CENTRE}
+use Rattle.verdict.specs.Orders.{_or-else_, good, isGood}
 use Rattle.verdict.proofs.Order.{passed, other-number}
 use Rattle.place.specs.declared.Place.{Place}
 use Rattle.place.specs.declared.Reply.{Reply}
@@ -183,18 +182,10 @@ module _ (x : Exchanges) (c s : ℕ) (w : Reply) where
 
 -- the packet writer never says STATE
 writer-other : (rs : List Row) (out : List ℕ) (h : Header) (l : ℕ) → packetVerdict rs out h l .number ≡ STATE → ⊥
-unfolding packetVerdict judgedUnder judgedUnit
+unfolding packetVerdict
 writer-other rs out h l =
     other-number STATE (roomTests out l 30) _ refl
-    (other-number STATE (fieldTests h) _ refl
-    (other-number STATE ((isCommand (h .command) or-else COMMAND) ∷ []) _ refl (by-bare (isBare (h .command)))))
-  where
-    u : List ℕ
-    u = part out 27 (27 + l)
-
-    by-bare : (b : Bool) → cond b (inOrder (bareTests u) good) (inOrder (unitTests rs (By (h .command)) u) good) .number ≡ STATE → ⊥
-    by-bare true = other-number STATE (bareTests u) good refl (λ e. omega (arith, e))
-    by-bare false = other-number STATE (unitTests rs (By (h .command)) u) good refl (λ e. omega (arith, e))
+    (other-number STATE (fieldTests h) _ refl (under-other rs (h .command) (part out 27 (27 + l)) STATE refl refl refl (λ e. omega (arith, e))))
 
 -- each call keeps the rules, and its verdict is not STATE
 record Well (v : Verdict) (y : Exchanges) : Type 0 where

@@ -14,7 +14,7 @@ use Rattle.octets.specs.Sums.{total}
 use Rattle.unit.specs.Objects.{textSize, endOf, walk, timely}
 use Rattle.unit.specs.Units.{judgedUnit, judgedUnder}
 use Rattle.verdict.specs.declared.Verdict.{Verdict}
-use Rattle.verdict.specs.Orders.{inOrder, refusal}
+use Rattle.verdict.specs.Orders.{inOrder, refusal, good}
 use Rattle.verdict.specs.Refusals.{CUT, START, LENGTH, END, SUM, VERSION, COMMAND, TIME, UNIT, TYPE}
 use Rattle.packet.specs.Frames.{judgedContent, judgedPacket}
 
@@ -44,7 +44,8 @@ packets =
     ∷ (mended 26 0 0x5A, refusal COMMAND 0)
     ∷ (mended 26 2 0x5C, refusal UNIT 0)
     ∷ (set (set B 26 4) 36 0xD2, refusal TYPE 0)
-    ∷ (set (set B 26 3) 36 0xD1, refusal UNIT 0)
+    -- under 3 the same bytes are no unit
+    ∷ (set (set B 26 3) 36 0xD1, good)
     -- TIME of object 0 is place 1
     ∷ (set (set B 33 0) 36 0xC1, refusal TIME 1)
     ∷ []

@@ -14,12 +14,11 @@ use Rattle.kinds.specs.declared.Row.{Row}
 use Rattle.packet.specs.Frames.{commandOf, unitOf, headerTests, judgedContent, judgedPacket}
 use Rattle.packet.specs.Headers.{headerOf}
 use Rattle.place.specs.declared.Reply.the-variants.{Confirm, Answer, Deny, BadAnswer}
-use Rattle.unit.specs.declared.Carrier.the-variants.{By}
-use Rattle.unit.specs.Units.{unitTests, judgedUnit, isBare, bareTests, isCommand, judgedUnder}
+use Rattle.unit.specs.Units.{judgedUnder}
+use Rattle.unit.proofs.Under.{under-good}
 use Rattle.verdict.specs.declared.Verdict.{Verdict}
-use Rattle.verdict.specs.Orders.{Test, _or-else_, inOrder, good, isGood, refusing}
-use Rattle.verdict.specs.Refusals.{COMMAND}
-use Rattle.verdict.proofs.Order.{all-passed, good-held, held-good, goes-on, good-is}
+use Rattle.verdict.specs.Orders.{Test, inOrder, good, isGood, refusing}
+use Rattle.verdict.proofs.Order.{all-passed, good-held, held-good, goes-on}
 use Rattle.taking.specs.declared.Role.{Role}
 use Rattle.taking.specs.declared.Role.the-variants.{Other, Is}
 use Rattle.taking.specs.Takes.{roleIn, roleOf, takenAs, taken}
@@ -37,19 +36,12 @@ passes : (ts : List Test) (rest : Verdict) → refusing ts ≡ true → isGood (
 passes ts rest n g = let h = good-held ts rest n g in (all-passed ts rest (h .0), h .1)
 
 -- and a packet judged good has no other verdict than the good one
-unit-good : (rs : List Row) (c : ℕ) (u : List ℕ) (b : Bool)
-    → isGood (cond b (inOrder (bareTests u) good) (judgedUnit rs (By c) u)) ≡ true → cond b (inOrder (bareTests u) good) (judgedUnit rs (By c) u) ≡ good
-unfolding judgedUnit
-unit-good rs c u true g = good-is (bareTests u) refl g
-unit-good rs c u false g = good-is (unitTests rs (By c) u) refl g
-
 judged-good : (rs : List Row) (p : List ℕ) → isGood (judgedPacket rs p) ≡ true → judgedPacket rs p ≡ good
-unfolding judgedPacket judgedContent judgedUnder
+unfolding judgedPacket judgedContent
 judged-good rs p g =
     let a = passes (frameTests 1024 p) (judgedContent rs p) refl g in
     let b = passes (headerTests p) (judgedUnder rs (commandOf p) (unitOf p)) refl (a .1) in
-    let c = passes ((isCommand (commandOf p) or-else COMMAND) ∷ []) _ refl (b .1) in
-    a .0 ∙ b .0 ∙ c .0 ∙ unit-good rs (commandOf p) (unitOf p) (isBare (commandOf p)) (c .1)
+    a .0 ∙ b .0 ∙ under-good rs (commandOf p) (unitOf p) (b .1)
 
 module _ (rs : List Row) (x : Exchanges) (p : List ℕ) where
   as-role : (r : Role) → roleOf rs p ≡ r → taken rs x p ≡ takenAs r x (headerOf p .source) (headerOf p .serial) (judgedPacket rs p)

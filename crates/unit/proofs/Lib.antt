@@ -2,6 +2,7 @@ pub mod Walks
 pub mod Shapes
 pub mod Times
 pub mod Judging
+pub mod Under
 pub mod Placing
 pub mod Good
 pub mod Lengths

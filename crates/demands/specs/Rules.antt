@@ -1,0 +1,148 @@
+-- The rules of a release, for what going back means (document 02: "Going back is also a release"): each order that a request moved, over the rules z of a release. At `in15` it is this
+-- release's, by computation (`this-release`), at `in13` and `in14` that of releases 1.3 and 1.4.
+-- Assumes nothing.
+use Prim.Native.Nat.{ℕ, suc, _+_}
+use mathlib.Core.Bool.{Bool, true, cond, _&&_}
+use mathlib.Core.List.{List, [], _∷_, _++_}
+use lib.Dec.{eqb, leb}
+use lib.ListN.{length, getD, drop}
+use Rattle.exchange.specs.declared.Draft.{Draft}
+use Rattle.exchange.specs.declared.Exchanges.{Exchanges}
+use Rattle.exchange.specs.declared.Replied.{Replied}
+use Rattle.exchange.specs.Begins.{headed, openingTests}
+use Rattle.exchange.specs.Table.{beginTests, found}
+use Rattle.fields.specs.declared.Fields.{Fields}
+use Rattle.frame.specs.Frame.{unitLength, frameTests}
+use Rattle.kinds.specs.declared.Row.{Row}
+use Rattle.kinds.specs.Table.{NONE, descriptionSize}
+use Rattle.label.specs.declared.Label.{Label}
+use Rattle.label.specs.declared.Judgement.{Judgement}
+use Rattle.label.specs.Times.{labelOf, judged, judgedIn13, allowed, SHOWN_NOTHING}
+use Rattle.octets.specs.Parts.{part}
+use Rattle.octets.specs.Searches.{firstRefused}
+use Rattle.output.specs.Writing.{roomTests}
+use Rattle.packet.specs.declared.Header.{Header}
+use Rattle.packet.specs.declared.Opened.{Opened}
+use Rattle.packet.specs.Frames.{commandOf, unitOf}
+use Rattle.packet.specs.Headers.{headerOf, noHeader, showing}
+use Rattle.reply.specs.declared.Due.{Due}
+use Rattle.reply.specs.Replies.{toGood, toRefused, isDue}
+use Rattle.taking.specs.declared.Role.the-variants.{Other}
+use Rattle.taking.specs.Takes.{roleIn, takenAs}
+use Rattle.unit.specs.declared.Carrier.{Carrier}
+use Rattle.unit.specs.declared.Carrier.the-variants.{Any, By}
+use Rattle.unit.specs.Objects.{typeOf, countOf, objectAt}
+use Rattle.unit.specs.Places.{numberTest}
+use Rattle.unit.specs.Units.{rowOf, shapeTests, isKept, keptTests, emptyTests, isCommand}
+use Rattle.verdict.specs.declared.Verdict.{Verdict}
+use Rattle.verdict.specs.declared.Part.{Part}
+use Rattle.verdict.specs.Orders.{Test, _or-else_, inOrder, refusal, good, isGood, partBy}
+use Rattle.verdict.specs.Refusals.{VERSION, COMMAND, TIME, KIND, TEXT, ROOM}
+
+-- a rule of labels (Q-1), and one of what a confirm or a deny carries (Q-2)
+abbrev pub Rule : Type 0
+Rule = Label → Judgement
+
+pub record Rules : Type 0 where
+  pub labels : Rule
+  pub carried : List ℕ → List Test
+
+-- till 1.3 a label is a time or it is bad; till 1.4 "for 3 and 6 the unit is empty"
+abbrev pub in13 : Rules
+in13 = record { labels = judgedIn13; carried = emptyTests }
+
+abbrev pub in14 : Rules
+in14 = record { labels = judged; carried = emptyTests }
+
+abbrev pub in15 : Rules
+in15 = record { labels = judged; carried = keptTests }
+
+-- the label of object k
+abbrev pub labelAt : Row → List ℕ → ℕ → Label
+labelAt r u k = labelOf (drop (objectAt r u k + r .label) u)
+
+-- "label after it": whether object k has no label or one that is no refusal
+unfoldable pub timelyBy : Rule → Row → List ℕ → ℕ → Bool
+timelyBy j r u k = cond (eqb (r .label) NONE) true (allowed (j (labelAt r u k)))
+
+-- "TIME of the first bad object"
+abbrev pub timeTestBy : Rule → Row → List ℕ → Test
+timeTestBy j r u =
+    record {
+      holds = leb (countOf u) (firstRefused (timelyBy j r u) 0 (countOf u));
+      refused = refusal TIME (suc (firstRefused (timelyBy j r u) 0 (countOf u)));
+    }
+
+-- the judge of a unit, and of one under a command, where a confirm's bytes are judged by their own tests
+abbrev pub unitBy : Rule → List Row → Carrier → List ℕ → Verdict
+unitBy j rs by u = inOrder (shapeTests rs by u ++ (timeTestBy j (rowOf rs u) u ∷ [])) good
+
+abbrev pub underBy : Rules → List Row → ℕ → List ℕ → Verdict
+underBy z rs c u =
+    inOrder ((isCommand c or-else COMMAND) ∷ []) (cond (isKept c) (inOrder (z .carried u) good) (unitBy (z .labels) rs (By c) u))
+
+-- "TIME of the header", of a label that is read or written
+abbrev pub headTest : Rule → Label → List Test
+headTest j l = (allowed (j l) or-else TIME) ∷ []
+
+-- the judge of a packet
+abbrev pub contentBy : Rules → List Row → List ℕ → Verdict
+contentBy z rs p =
+    inOrder ((eqb (getD p 4 0) 1 or-else VERSION) ∷ (isCommand (commandOf p) or-else COMMAND) ∷ headTest (z .labels) (labelOf (drop 6 p)))
+    (underBy z rs (commandOf p) (unitOf p))
+
+abbrev pub packetBy : Rules → List Row → List ℕ → Verdict
+packetBy z rs p = inOrder (frameTests 1024 p) (contentBy z rs p)
+
+-- the packet writer, and "begin and write as one"
+abbrev pub writerBy : Rules → List Row → List ℕ → Header → ℕ → Verdict
+writerBy z rs out h l =
+    inOrder (roomTests out l 30)
+    (inOrder ((isCommand (h .command) or-else COMMAND) ∷ headTest (z .labels) (h .label)) (underBy z rs (h .command) (part out 27 (27 + l))))
+
+abbrev pub begunBy : Rules → List Row → Exchanges → ℕ → List ℕ → Draft → ℕ → Verdict
+begunBy z rs x c out d l = inOrder (beginTests x c) (inOrder (openingTests out d l) (writerBy z rs out (headed x c d (found x c .serial)) l))
+
+-- the object writer
+unfoldable pub newTimelyBy : Rule → Row → Fields → Bool
+newTimelyBy j r f = cond (eqb (r .label) NONE) true (allowed (j (f .label)))
+
+abbrev pub objectBy : Rule → List Row → List ℕ → ℕ → Fields → List ℕ → Verdict
+objectBy j rs u k f d =
+    inOrder
+    ((shapeTests rs Any u ++ (numberTest u k ∷ []))
+    ++ ((eqb (f .kind) (typeOf u) && eqb (rowOf rs u .text) NONE or-else KIND)
+    ∷ (eqb (length d) (descriptionSize (rowOf rs u)) or-else TEXT)
+    ∷ record { holds = newTimelyBy j (rowOf rs u) f; refused = refusal TIME (suc k) }
+    ∷ []))
+    good
+
+-- what is read of a packet of which the judge says v, and where its unit stands
+abbrev pub readAs : List ℕ → Verdict → Opened
+readAs p v = cond (isGood v) (showing v (headerOf p) (unitLength p)) (record { verdict = v; header = noHeader; shown = SHOWN_NOTHING; length = 0 })
+
+abbrev pub placeAs : List ℕ → Verdict → Part
+placeAs p v = partBy v 27 (27 + unitLength p)
+
+-- what is due to a packet whose content is judged v, and the reply's order, b being whether its label may stand
+abbrev pub dueAs : List ℕ → Verdict → Due
+dueAs p v = cond (isGood v) (toGood (commandOf p)) (toRefused (commandOf p))
+
+abbrev pub dueBy : Rules → List Row → List ℕ → Due
+dueBy z rs p = dueAs p (contentBy z rs p)
+
+abbrev pub replyAs : List ℕ → List ℕ → Bool → Verdict → Verdict
+replyAs p out b v =
+    inOrder (frameTests 1024 p) (inOrder (cond (isDue (dueAs p v)) ((b or-else TIME) ∷ (leb 30 (length out) or-else ROOM) ∷ []) []) good)
+
+abbrev pub replyBy : Rules → List Row → List ℕ → Label → List ℕ → Verdict
+replyBy z rs p t out = replyAs p out (allowed (z .labels t)) (contentBy z rs p)
+
+-- what a packet whose content is judged v does to the exchange table
+abbrev pub takeAs : Exchanges → List ℕ → Verdict → Replied
+takeAs x p v =
+    takenAs (cond (isGood (inOrder (frameTests 1024 p) good)) (roleIn (isGood v) (commandOf p)) Other)
+    x (headerOf p .source) (headerOf p .serial) (inOrder (frameTests 1024 p) v)
+
+abbrev pub takenBy : Rules → List Row → Exchanges → List ℕ → Replied
+takenBy z rs x p = takeAs x p (contentBy z rs p)
