@@ -1,5 +1,5 @@
 -- The cases of document 02's Q-2, confirms that carry something, as rows of the one table of checked examples (Checked). Assumes nothing.
-use Prim.Native.Nat.{ℕ, _+_, _-_, _%_, _/_}
+use Prim.Native.Nat.{ℕ, _+_, _%_}
 use mathlib.Core.List.{List, [], _∷_, _++_, map}
 use mathlib.Core.Path.{_≡_, refl}
 use lib.ListN.{length, set, take, drop, replicate}

@@ -1,12 +1,11 @@
 -- The cases of document 02's Q-1, panels without a clock, as rows of the one table of checked examples (Checked). Assumes nothing.
-use Prim.Native.Nat.{ℕ, _+_, _-_}
+use Prim.Native.Nat.{ℕ, _+_}
 use mathlib.Core.List.{List, [], _∷_, _++_, map}
 use mathlib.Core.Path.{_≡_, refl}
 use lib.ListN.{set, take, drop, replicate}
 use Rattle.fields.specs.Layouts.{labelIn, fieldsFrom}
 use Rattle.frame.specs.Frame.{unitLength, ended, summed}
 use Rattle.kinds.specs.Table.{table, rowsOf, rows, findRow, entryOf}
-use Rattle.label.specs.declared.Label.{Label}
 use Rattle.label.specs.Times.{labelOf, judged, inRanges, shownAs, SHOWN_NOTHING, SHOWN_NO_LABEL}
 use Rattle.label.specs.declared.Judgement.the-variants.{Time, NoTime}
 use Rattle.octets.specs.Numbers.{lowFirst, bytesOf}
@@ -18,9 +17,8 @@ use Rattle.output.specs.Packets.{headBytes, packetBytes}
 use Rattle.packet.specs.Frames.{unitOf, judgedContent, judgedPacket}
 use Rattle.packet.specs.Headers.{openedPacket}
 use Rattle.packet.proofs.Examples.{B}
-use Rattle.reply.specs.Replies.{commandFor, dueTo, replyVerdict, answered, writtenReply}
+use Rattle.reply.specs.Replies.{dueTo, replyVerdict, answered, writtenReply}
 use Rattle.typed.specs.Typing.{shownIn, typedObject}
-use Rattle.unit.specs.declared.Carrier.the-variants.{Any}
 use Rattle.unit.specs.Objects.{textSize, endOf, walk, timely}
 use Rattle.unit.specs.Places.{placedAfter, objectPlace}
 use Rattle.unit.specs.Units.{judgedUnit, judgedUnder}

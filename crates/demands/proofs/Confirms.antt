@@ -1,9 +1,9 @@
 -- Document 02, Q-2, confirms that carry something: what a confirm or a deny carries is kept as bytes, written and read back, and gets no reply. Assumes nothing.
 use Prim.Native.Nat.{ℕ, _+_, _≤_, _<_}
 use native.Mathlib.Omega.{arith}
-use mathlib.Core.Bool.{Bool, true, false, cond}
+use mathlib.Core.Bool.{true, false}
 use mathlib.Core.List.{List, []}
-use mathlib.Core.Logic.{_⊎_, inl, inr, _↔_}
+use mathlib.Core.Logic.{_↔_}
 use mathlib.Core.Path.{_≡_, refl, sym, ap, _∙_}
 use borrow.Author.Tests.{leb-true}
 use lib.ListN.{length, take}
@@ -30,13 +30,13 @@ use Rattle.place.specs.declared.Reply.the-variants.{Confirm, Deny}
 use Rattle.reply.specs.declared.Due.{Due}
 use Rattle.reply.specs.declared.Due.the-variants.{Nothing}
 use Rattle.reply.specs.declared.Answer.{Answer}
-use Rattle.reply.specs.Replies.{isDue, commandFor, dueTo, replyHeader, replyBytes, replyTests, replyVerdict, answered, writtenReply}
-use Rattle.reply.proofs.Promises.{none-to}
+use Rattle.reply.specs.Replies.{commandFor, dueTo, replyHeader, replyBytes, replyTests, replyVerdict, answered, writtenReply}
+use Rattle.reply.proofs.Promises.{none-to-kept}
 use Rattle.taking.specs.Takes.{taken}
 use Rattle.taking.proofs.Promises.{taken-confirm, taken-deny}
 use Rattle.unit.specs.declared.Carrier.the-variants.{Any}
 use Rattle.unit.specs.Units.{isKept, isCommand, judgedUnit, judgedUnder}
-use Rattle.unit.proofs.Under.{kept-is, kept-command, kept-good, unit-short, short-told, unit-stays, unit-only}
+use Rattle.unit.proofs.Under.{by-kept, kept-command, kept-good, unit-short, short-told, unit-stays, unit-only}
 use Rattle.verdict.specs.declared.Verdict.{Verdict}
 use Rattle.verdict.specs.declared.Part.{Part}
 use Rattle.verdict.specs.Orders.{Test, inOrder, refusal, good, isGood, refusing, partBy, partIn}
@@ -91,11 +91,8 @@ confirm-again p out bytes e g room stands =
 
 module _ (p : List ℕ) (t : Label) (out : List ℕ) (e : isKept (commandOf p) ≡ true) (g : isGood (inOrder (frameTests 1024 p) good) ≡ true) where
   none-due : dueTo rows p ≡ Nothing
-  none-due = go (kept-is (commandOf p) e)
-    where
-      go : (commandOf p ≡ 3) ⊎ (commandOf p ≡ 6) → dueTo rows p ≡ Nothing
-      go (inl q) = none-to rows p 3 q refl refl
-      go (inr q) = none-to rows p 6 q refl refl
+  unfolding dueTo
+  none-due = none-to-kept (commandOf p) (isGood (judgedContent rows p)) e
 
   none-asked : replyVerdict rows p t out ≡ good
   unfolding replyVerdict inOrder
@@ -117,11 +114,11 @@ reply-carries-nothing p t d bytes =
 -- to the exchange table a good confirm or deny is what its command, serial and source say, whatever it carries: as an empty one would be
 pub confirm-taken : (x : Exchanges) (p q : List ℕ) → isGood (judgedPacket rows p) ≡ true → isGood (judgedPacket rows q) ≡ true → isKept (commandOf p) ≡ true
     → commandOf p ≡ commandOf q → headerOf p .source ≡ headerOf q .source → headerOf p .serial ≡ headerOf q .serial → taken rows x p ≡ taken rows x q
-confirm-taken x p q g k e command source serial = go (kept-is (commandOf p) e)
-  where
-    go : (commandOf p ≡ 3) ⊎ (commandOf p ≡ 6) → taken rows x p ≡ taken rows x q
-    go (inl c) = taken-confirm rows x p g c ∙ (λ i. replied x (source i) (serial i) Confirm) ∙ sym (taken-confirm rows x q k (sym command ∙ c))
-    go (inr c) = taken-deny rows x p g c ∙ (λ i. replied x (source i) (serial i) Deny) ∙ sym (taken-deny rows x q k (sym command ∙ c))
+confirm-taken x p q g k e command source serial =
+    by-kept (λ (n : ℕ). commandOf p ≡ n → taken rows x p ≡ taken rows x q) (commandOf p) e
+    (λ c. taken-confirm rows x p g c ∙ (λ i. replied x (source i) (serial i) Confirm) ∙ sym (taken-confirm rows x q k (sym command ∙ c)))
+    (λ c. taken-deny rows x p g c ∙ (λ i. replied x (source i) (serial i) Deny) ∙ sym (taken-deny rows x q k (sym command ∙ c)))
+    refl
 
 -- "UNIT stays for a unit under 2 bytes, under 1, 2, 4, 5 or alone", exactly
 pub unit-refused-when : (c : ℕ) (u : List ℕ)

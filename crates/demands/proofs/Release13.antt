@@ -1,10 +1,10 @@
 -- What release 1.4 changed, exactly (document 02, Q-1): each verdict is as in 1.3, or it was TIME at a label of six zeros and no more is. What 1.5 changed is Release14's.
 -- Assumes nothing.
 use Prim.Native.Nat.{ℕ, _+_}
-use mathlib.Core.Bool.{Bool, true, false, cond}
+use mathlib.Core.Bool.{true, false}
 use mathlib.Core.List.{List}
 use mathlib.Core.Logic.{_⊎_, inl, inr}
-use mathlib.Core.Path.{_≡_, refl, sym, ap, _∙_}
+use mathlib.Core.Path.{_≡_, sym, ap, _∙_}
 use Rattle.exchange.specs.declared.Draft.{Draft}
 use Rattle.exchange.specs.declared.Exchanges.{Exchanges}
 use Rattle.fields.specs.declared.Fields.{Fields}

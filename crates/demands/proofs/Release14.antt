@@ -2,9 +2,8 @@
 -- Assumes nothing.
 use Prim.Native.Nat.{ℕ, _+_, _≤_}
 use native.Mathlib.Omega.{arith}
-use mathlib.Core.Bool.{Bool, true, false, _&&_, cond, true≢false, and-eq-true-iff}
+use mathlib.Core.Bool.{Bool, true, false, _&&_, cond, false≢true, and-eq-true-iff}
 use mathlib.Core.List.{List, [], _∷_}
-use mathlib.Core.Logic.{_⊎_, inl, inr}
 use mathlib.Core.Path.{_≡_, refl, sym, ap, _∙_}
 use borrow.Author.Tests.{leb-true, leb-false, le-leb, lt-leb}
 use lib.Dec.{leb}
@@ -24,28 +23,29 @@ use Rattle.octets.proofs.Flags.{by-test}
 use Rattle.octets.proofs.Parts.{length-part}
 use Rattle.output.specs.Writing.{roomTests, fieldTests, packetVerdict}
 use Rattle.packet.specs.declared.Header.{Header}
-use Rattle.packet.specs.Frames.{commandOf, unitOf, headerTests, judgedContent, judgedPacket, unitPlace}
+use Rattle.packet.specs.Frames.{commandOf, unitOf, headerTests, judgedPacket, unitPlace}
 use Rattle.packet.specs.Headers.{headerOf, openedPacket}
 use Rattle.place.specs.Rules.{isOpen}
 use Rattle.reply.specs.declared.Due.{Due}
 use Rattle.reply.specs.declared.Due.the-variants.{Nothing}
-use Rattle.reply.specs.Replies.{toGood, toRefused, isDue, dueTo, replyVerdict}
+use Rattle.reply.specs.Replies.{isDue, dueTo, replyVerdict}
+use Rattle.reply.proofs.Promises.{none-to-kept}
 use Rattle.taking.specs.declared.Role.{Role}
 use Rattle.taking.specs.declared.Role.the-variants.{Other}
 use Rattle.taking.specs.Takes.{roleIn, takenAs, taken}
 use Rattle.unit.specs.Units.{isKept, emptyTests, judgedUnder}
-use Rattle.unit.proofs.Under.{kept-is, kept-command, kept-good}
+use Rattle.unit.proofs.Under.{by-kept, kept-command, kept-good}
 use Rattle.verdict.specs.declared.Verdict.{Verdict}
 use Rattle.verdict.specs.Orders.{Test, _or-else_, inOrder, refusal, good, isGood, refusing}
 use Rattle.verdict.specs.Refusals.{UNIT, TIME, ROOM}
 use Rattle.verdict.proofs.Order.{passed, failed, good-held, held-good, stays, goes-on}
 use Rattle.demands.specs.Rules.{in14, in15, underBy, contentBy, packetBy, writerBy, begunBy, readAs, placeAs, dueAs, dueBy, replyBy, takeAs, takenBy}
 use Rattle.demands.specs.Release13.{WithoutTime}
-use Rattle.demands.specs.Release14.{carriesSome, saidIn14}
+use Rattle.demands.specs.Release14.{carriesSome, newlyGood, saidIn14}
 use Rattle.demands.proofs.Release13.{packet-spares-zeros}
-use Rattle.demands.proofs.ThisRelease.{under-now, content-now, packet-now, writer-now, begun-now, due-now, reply-now, taken-now}
+use Rattle.demands.proofs.ThisRelease.{under-now, packet-now, writer-now, begun-now, due-now, reply-now, taken-now}
 
--- both are tests of the command, and of L
+-- where 1.4 says the same: of what is refused, and under every other command
 module _ (c l : ℕ) where
   said-refused : (v : Verdict) → isGood v ≡ false → saidIn14 c l v ≡ v
   said-refused v e = ap (λ (b : Bool). cond (carriesSome c l && b) (refusal UNIT 0) v) e ∙ go (carriesSome c l)
@@ -126,11 +126,8 @@ write-packet-as-in-1-4 out h l =
 -- a beginning is never under 3 or 6, so it is as it was
 opens-none : (c : ℕ) → isOpen (modeOf c) ≡ true → isKept c ≡ false
 unfolding isOpen modeOf
-opens-none c o = by-test (isKept c) (λ e. absurd (go (kept-is c e))) (λ e. e)
-  where
-    go : (c ≡ 3) ⊎ (c ≡ 6) → ⊥
-    go (inl q) = true≢false (sym o ∙ ap (λ (k : ℕ). isOpen (modeOf k)) q)
-    go (inr q) = true≢false (sym o ∙ ap (λ (k : ℕ). isOpen (modeOf k)) q)
+opens-none c o =
+    by-test (isKept c) (λ e. absurd (by-kept (λ (k : ℕ). isOpen (modeOf k) ≡ true → ⊥) c e (λ q. false≢true q) (λ q. false≢true q) o)) (λ e. e)
 
 pub begin-as-in-1-4 : (x : Exchanges) (c : ℕ) (out : List ℕ) (d : Draft) (l : ℕ) → begunBy in14 rows x c out d l ≡ begunVerdict rows x c out d l
 begin-as-in-1-4 x c out d l =
@@ -148,24 +145,12 @@ begin-as-in-1-4 x c out d l =
         write-packet-as-in-1-4 out h l ∙ said-other (d .command) l (packetVerdict rows out h l) (opens-none (d .command) begins) ∙ sym (writer-now rows out h l)
 
 -- what is read of a packet and where its unit stands follow from the judge's word, so they too differ there alone
-pub read-as-in-1-4 : (p : List ℕ) → carriesSome (commandOf p) (unitLength p) && isGood (judgedPacket rows p) ≡ false
+pub read-as-in-1-4 : (p : List ℕ) → newlyGood (commandOf p) (unitLength p) (judgedPacket rows p) ≡ false
     → (readAs p (packetBy in14 rows p) ≡ openedPacket rows p) × (placeAs p (packetBy in14 rows p) ≡ unitPlace rows p)
 unfolding openedPacket unitPlace
 read-as-in-1-4 p e =
     let same : packetBy in14 rows p ≡ judgedPacket rows p = packet-as-in-1-4 p ∙ simp e in
     (ap (readAs p) same, ap (placeAs p) same)
-
--- to a confirm or a deny nothing is due, whatever is said of it
-pub none-due : (p : List ℕ) (v : Verdict) → isKept (commandOf p) ≡ true → dueAs p v ≡ Nothing
-none-due p v e = go (kept-is (commandOf p) e)
-  where
-    by-good : (b : Bool) → cond b Nothing Nothing ≡ Nothing
-    by-good true = refl
-    by-good false = refl
-
-    go : (commandOf p ≡ 3) ⊎ (commandOf p ≡ 6) → dueAs p v ≡ Nothing
-    go (inl q) = ap (λ (c : ℕ). cond (isGood v) (toGood c) (toRefused c)) q ∙ by-good (isGood v)
-    go (inr q) = ap (λ (c : ℕ). cond (isGood v) (toGood c) (toRefused c)) q ∙ by-good (isGood v)
 
 -- the reply is the same to every packet
 pub reply-as-in-1-4 : (p : List ℕ) (t : Label) (out : List ℕ) → (dueBy in14 rows p ≡ dueTo rows p) × (replyBy in14 rows p t out ≡ replyVerdict rows p t out)
@@ -174,13 +159,16 @@ reply-as-in-1-4 p t out = (due ∙ due-now rows p, ap replied due ∙ reply-now 
     replied : Due → Verdict
     replied d = inOrder (frameTests 1024 p) (inOrder (cond (isDue d) ((allowed (judged t) or-else TIME) ∷ (leb 30 (length out) or-else ROOM) ∷ []) []) good)
 
+    none : isKept (commandOf p) ≡ true → (v : Verdict) → dueAs p v ≡ Nothing
+    none e v = none-to-kept (commandOf p) (isGood v) e
+
     due : dueBy in14 rows p ≡ dueBy in15 rows p
-    due = by-test (isKept (commandOf p)) (λ e. none-due p (contentBy in14 rows p) e ∙ sym (none-due p (contentBy in15 rows p) e)) (λ e. simp e)
+    due = by-test (isKept (commandOf p)) (λ e. none e (contentBy in14 rows p) ∙ sym (none e (contentBy in15 rows p))) (λ e. simp e)
 
 -- to the exchange table release 1.4 takes a good confirm or deny that carries something for a refused packet, and every other packet as now
 module _ (x : Exchanges) (p : List ℕ) where
   abbrev differs : Bool
-  differs = carriesSome (commandOf p) (unitLength p) && isGood (judgedPacket rows p)
+  differs = newlyGood (commandOf p) (unitLength p) (judgedPacket rows p)
 
   -- b is whether the frame is good
   abbrev takeOf : Bool → Verdict → Verdict → Replied
@@ -189,11 +177,7 @@ module _ (x : Exchanges) (p : List ℕ) where
   -- a packet that is kept as bytes and refused is no reply
   no-role : isKept (commandOf p) ≡ true → roleIn false (commandOf p) ≡ Other
   unfolding roleIn
-  no-role e = go (kept-is (commandOf p) e)
-    where
-      go : (commandOf p ≡ 3) ⊎ (commandOf p ≡ 6) → roleIn false (commandOf p) ≡ Other
-      go (inl q) = ap (roleIn false) q
-      go (inr q) = ap (roleIn false) q
+  no-role e = by-kept (λ (k : ℕ). roleIn false k ≡ Other) (commandOf p) e refl refl
 
   take-refused : isKept (commandOf p) ≡ true → isGood (inOrder (frameTests 1024 p) good) ≡ true → contentBy in14 rows p ≡ refusal UNIT 0
       → takenBy in14 rows x p ≡ untold x (refusal UNIT 0)
@@ -211,7 +195,7 @@ module _ (x : Exchanges) (p : List ℕ) where
       (λ i. takeOf (g i) (contentBy in14 rows p) (same i)) ∙ sym (λ i. takeOf (g i) (contentBy in15 rows p) (packetBy in15 rows p)))
       ∙ taken-now rows x p
 
-  pub take-as-in-1-4 : takenBy in14 rows x p ≡ cond differs (untold x (refusal UNIT 0)) (taken rows x p)
+  pub take-as-in-1-4 : takenBy in14 rows x p ≡ cond (newlyGood (commandOf p) (unitLength p) (judgedPacket rows p)) (untold x (refusal UNIT 0)) (taken rows x p)
   take-as-in-1-4 = by-test differs some (λ e. take-same (packet-as-in-1-4 p ∙ simp e (sym (packet-now rows p))) ∙ simp e)
     where
       some : differs ≡ true → takenBy in14 rows x p ≡ cond differs (untold x (refusal UNIT 0)) (taken rows x p)

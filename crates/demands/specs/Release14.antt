@@ -11,6 +11,10 @@ use Rattle.verdict.specs.Refusals.{UNIT}
 abbrev pub carriesSome : ℕ → ℕ → Bool
 carriesSome c l = isKept c && leb 1 l
 
--- what release 1.4 says of command c with L bytes where this one says v: UNIT of a confirm or a deny that carries something and is good, else the same
+-- a confirm or a deny that carries something, and of which this release says v, is good: release 1.4 did not take it
+abbrev pub newlyGood : ℕ → ℕ → Verdict → Bool
+newlyGood c l v = carriesSome c l && isGood v
+
+-- what release 1.4 says of command c with l bytes where this one says v: UNIT of these, of all others the same
 abbrev pub saidIn14 : ℕ → ℕ → Verdict → Verdict
-saidIn14 c l v = cond (carriesSome c l && isGood v) (refusal UNIT 0) v
+saidIn14 c l v = cond (newlyGood c l v) (refusal UNIT 0) v

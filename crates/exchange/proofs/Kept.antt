@@ -21,7 +21,7 @@ use Rattle.packet.specs.declared.Header.{Header}
 use Rattle.unit.proofs.Under.{under-other}
 use Rattle.verdict.specs.declared.Verdict.{Verdict}
 use Rattle.verdict.specs.Refusals.{STATE, FULL, CENTRE}
-use Rattle.verdict.specs.Orders.{_or-else_, good, isGood}
+use Rattle.verdict.specs.Orders.{_or-else_, isGood}
 use Rattle.verdict.proofs.Order.{passed, other-number}
 use Rattle.place.specs.declared.Place.{Place}
 use Rattle.place.specs.declared.Reply.{Reply}

@@ -13,7 +13,8 @@ use Rattle.output.proofs.Sent.{Fitting, header-sent, judged-sent}
 use Rattle.packet.specs.declared.Header.{Header}
 use Rattle.packet.specs.Frames.{commandOf, judgedContent, judgedPacket}
 use Rattle.packet.specs.Headers.{headerOf}
-use Rattle.unit.specs.Units.{judgedUnder}
+use Rattle.unit.specs.Units.{isKept, judgedUnder}
+use Rattle.unit.proofs.Under.{by-kept}
 use Rattle.verdict.specs.Orders.{inOrder, good, isGood}
 use Rattle.reply.specs.declared.Due.{Due}
 use Rattle.reply.specs.declared.Due.the-variants.{Nothing, Confirm, Deny}
@@ -27,6 +28,14 @@ none-to rs p c e a b = by-test (isGood (judgedContent rs p))
     by-test : (g : Bool) → cond g (toGood (commandOf p)) (toRefused (commandOf p)) ≡ Nothing
     by-test true = ap toGood e ∙ a
     by-test false = ap toRefused e ∙ b
+
+-- nor where the bytes are kept (document 02, Q-2), whether the packet is good or not
+pub none-to-kept : (c : ℕ) (g : Bool) → isKept c ≡ true → cond g (toGood c) (toRefused c) ≡ Nothing
+none-to-kept c g e = by-kept (λ (k : ℕ). cond g (toGood k) (toRefused k) ≡ Nothing) c e (either g) (either g)
+  where
+    either : (b : Bool) → cond b Nothing Nothing ≡ Nothing
+    either true = refl
+    either false = refl
 
 module _ (rs : List Row) (p : List ℕ) (bytes : Octets p) (t : Label) (a : allowed (judged t) ≡ true) where
   fit : (c : ℕ) → Fitting (replyHeader (headerOf p) t c)
