@@ -5,7 +5,6 @@ use mathlib.Core.Bool.{true, false}
 use mathlib.Core.List.{List, []}
 use mathlib.Core.Logic.{_↔_}
 use mathlib.Core.Path.{_≡_, refl, sym, ap, _∙_}
-use borrow.Author.Tests.{leb-true}
 use lib.ListN.{length, take}
 use Rattle.exchange.specs.declared.Exchanges.{Exchanges}
 use Rattle.exchange.specs.Table.{answered as replied}
@@ -21,6 +20,7 @@ use Rattle.octets.proofs.Numbers.{low-bound}
 use Rattle.octets.proofs.Parts.{length-part}
 use Rattle.output.specs.Packets.{packetBytes}
 use Rattle.output.specs.Writing.{roomTests, fieldTests, packetVerdict, writtenPacket}
+use Rattle.output.proofs.Judging.{roomy}
 use Rattle.output.proofs.Promises.{again-good, again-there}
 use Rattle.output.proofs.Sent.{Fitting, length-sent, header-sent, sent-long, unit-sent, judged-sent}
 use Rattle.packet.specs.declared.Header.{Header}
@@ -41,20 +41,30 @@ use Rattle.verdict.specs.declared.Verdict.{Verdict}
 use Rattle.verdict.specs.declared.Part.{Part}
 use Rattle.verdict.specs.Orders.{Test, inOrder, refusal, good, isGood, refusing, partBy, partIn}
 use Rattle.verdict.specs.Refusals.{UNIT}
-use Rattle.verdict.proofs.Order.{good-held, stays, goes-on}
+use Rattle.verdict.proofs.Order.{stays, goes-on}
 
 -- behind tests that refuse, what is said where they are passed can be exchanged
-behind : (ts : List Test) (v w : Verdict) → refusing ts ≡ true → (isGood (inOrder ts good) ≡ true → v ≡ w) → inOrder ts v ≡ inOrder ts w
+pub behind : (ts : List Test) (v w : Verdict) → refusing ts ≡ true → (isGood (inOrder ts good) ≡ true → v ≡ w) → inOrder ts v ≡ inOrder ts w
 behind ts v w n e =
     by-test (isGood (inOrder ts good)) (λ g. goes-on ts v n g ∙ e g ∙ sym (goes-on ts w n g)) (λ g. stays ts v g ∙ sym (stays ts w g))
+
+-- what a packet whose frame is good carries is L bytes, 1,024 at most; so is what stands in an output that has room
+pub unit-long : (p : List ℕ) → isGood (inOrder (frameTests 1024 p) good) ≡ true → (length (unitOf p) ≡ unitLength p) × (unitLength p ≤ 1024)
+unit-long p g =
+    let f = good-framed 1024 p g in
+    (length-part p 27 (27 + unitLength p) (omega arith) (omega (arith, f .long)) ∙ omega arith, f .few)
+
+pub output-long : (out : List ℕ) (l : ℕ) → isGood (inOrder (roomTests out l 30) good) ≡ true → (length (part out 27 (27 + l)) ≡ l) × (l ≤ 1024)
+output-long out l g =
+    let r = roomy out l 30 g in
+    (length-part out 27 (27 + l) (omega arith) (omega (arith, r .1)) ∙ omega arith, r .0)
 
 -- "For 3 and 6 a unit of 0 to 1,024 bytes is accepted .. and not judged as a unit": frame and header alone decide on such a packet
 pub confirm-judged : (p : List ℕ) → isKept (commandOf p) ≡ true → judgedPacket rows p ≡ inOrder (frameTests 1024 p) (inOrder (headerTests p) good)
 unfolding judgedPacket judgedContent
-confirm-judged p e = behind (frameTests 1024 p) _ _ refl (λ g. ap (inOrder (headerTests p)) (kept-good rows (commandOf p) (unitOf p) e (short g)))
-  where
-    short : isGood (inOrder (frameTests 1024 p) good) ≡ true → length (unitOf p) ≤ 1024
-    short g = let f = good-framed 1024 p g in omega (arith, length-part p 27 (27 + unitLength p) (omega arith) (omega (arith, f .long)), f .few)
+confirm-judged p e =
+    behind (frameTests 1024 p) _ _ refl
+    (λ g. let fits = unit-long p g in ap (inOrder (headerTests p)) (kept-good rows (commandOf p) (unitOf p) e (omega (arith, fits .0, fits .1))))
 
 -- ".. kept as bytes": they are handed back as any other unit, the part of the packet from byte 28 on, L bytes of it
 pub confirm-bytes : (p : List ℕ) → isGood (judgedPacket rows p) ≡ true
@@ -65,12 +75,9 @@ confirm-bytes p g = (simp g, simp g)
 -- ".. and the writer can send one": length, room, command and label alone decide on it
 pub confirm-written : (out : List ℕ) (h : Header) (l : ℕ) → isKept (h .command) ≡ true → packetVerdict rows out h l ≡ inOrder (roomTests out l 30) (inOrder (fieldTests h) good)
 unfolding packetVerdict
-confirm-written out h l e = behind (roomTests out l 30) _ _ refl (λ g. ap (inOrder (fieldTests h)) (kept-good rows (h .command) (part out 27 (27 + l)) e (short g)))
-  where
-    short : isGood (inOrder (roomTests out l 30) good) ≡ true → length (part out 27 (27 + l)) ≤ 1024
-    short g =
-        let held = good-held (roomTests out l 30) good refl g .0 in
-        omega (arith, length-part out 27 (27 + l) (omega arith) (omega (arith, leb-true (30 + l) (length out) (held .1 .0))), leb-true l 1024 (held .0))
+confirm-written out h l e =
+    behind (roomTests out l 30) _ _ refl
+    (λ g. let fits = output-long out l g in ap (inOrder (fieldTests h)) (kept-good rows (h .command) (part out 27 (27 + l)) e (omega (arith, fits .0, fits .1))))
 
 -- DEMAND 2 of such packets: whatever bytes u are carried, what is written is accepted and reads back as the same header and the same bytes
 pub confirm-read-back : (h : Header) (u : List ℕ) → Fitting h → isKept (h .command) ≡ true → allowed (judged (h .label)) ≡ true → length u ≤ 1024

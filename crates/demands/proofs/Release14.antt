@@ -14,13 +14,11 @@ use Rattle.exchange.specs.declared.Replied.{Replied}
 use Rattle.exchange.specs.Begins.{headed, modeOf, openingTests, begunVerdict}
 use Rattle.exchange.specs.Table.{beginTests, found, untold}
 use Rattle.frame.specs.Frame.{unitLength, frameTests}
-use Rattle.frame.proofs.Framed.{good-framed}
 use Rattle.kinds.specs.Table.{rows}
 use Rattle.label.specs.declared.Label.{Label}
 use Rattle.label.specs.Times.{judged, allowed}
 use Rattle.octets.specs.Parts.{part}
 use Rattle.octets.proofs.Flags.{by-test}
-use Rattle.octets.proofs.Parts.{length-part}
 use Rattle.output.specs.Writing.{roomTests, fieldTests, packetVerdict}
 use Rattle.packet.specs.declared.Header.{Header}
 use Rattle.packet.specs.Frames.{commandOf, unitOf, headerTests, judgedPacket, unitPlace}
@@ -42,6 +40,7 @@ use Rattle.verdict.proofs.Order.{passed, failed, good-held, held-good, stays, g
 use Rattle.demands.specs.Rules.{in14, in15, underBy, contentBy, packetBy, writerBy, begunBy, readAs, placeAs, dueAs, dueBy, replyBy, takeAs, takenBy}
 use Rattle.demands.specs.Release13.{WithoutTime}
 use Rattle.demands.specs.Release14.{carriesSome, newlyGood, saidIn14}
+use Rattle.demands.proofs.Confirms.{behind, unit-long, output-long}
 use Rattle.demands.proofs.Release13.{packet-spares-zeros}
 use Rattle.demands.proofs.ThisRelease.{under-now, packet-now, writer-now, begun-now, due-now, reply-now, taken-now}
 
@@ -102,9 +101,8 @@ under-said c l u long few =
 
 content-said : (p : List ℕ) → isGood (inOrder (frameTests 1024 p) good) ≡ true → contentBy in14 rows p ≡ saidIn14 (commandOf p) (unitLength p) (contentBy in15 rows p)
 content-said p g =
-    let f = good-framed 1024 p g in
-    let long : length (unitOf p) ≡ unitLength p = length-part p 27 (27 + unitLength p) (omega arith) (omega (arith, f .long)) ∙ omega arith in
-    said-over (commandOf p) (unitLength p) (headerTests p) _ _ refl (λ t. under-said (commandOf p) (unitLength p) (unitOf p) long (f .few))
+    let fits = unit-long p g in
+    said-over (commandOf p) (unitLength p) (headerTests p) _ _ refl (λ t. under-said (commandOf p) (unitLength p) (unitOf p) (fits .0) (fits .1))
 
 -- a packet: release 1.4 refuses with UNIT every confirm and every deny that carries something and is good now, and says of all others what is said now
 pub packet-as-in-1-4 : (p : List ℕ) → packetBy in14 rows p ≡ saidIn14 (commandOf p) (unitLength p) (judgedPacket rows p)
@@ -114,14 +112,11 @@ packet-as-in-1-4 p =
 -- so with the packet writer
 pub write-packet-as-in-1-4 : (out : List ℕ) (h : Header) (l : ℕ) → writerBy in14 rows out h l ≡ saidIn14 (h .command) l (packetVerdict rows out h l)
 write-packet-as-in-1-4 out h l =
-    said-over (h .command) l (roomTests out l 30) _ _ refl (λ g. said-over (h .command) l (fieldTests h) _ _ refl (λ t. carried g))
+    said-over (h .command) l (roomTests out l 30) _ _ refl
+    (λ g.
+    let fits = output-long out l g in
+    said-over (h .command) l (fieldTests h) _ _ refl (λ t. under-said (h .command) l (part out 27 (27 + l)) (fits .0) (fits .1)))
     ∙ ap (saidIn14 (h .command) l) (writer-now rows out h l)
-  where
-    carried : isGood (inOrder (roomTests out l 30) good) ≡ true → underBy in14 rows (h .command) (part out 27 (27 + l)) ≡ saidIn14 (h .command) l (underBy in15 rows (h .command) (part out 27 (27 + l)))
-    carried g =
-        let held = good-held (roomTests out l 30) good refl g .0 in
-        let fits = leb-true (30 + l) (length out) (held .1 .0) in
-        under-said (h .command) l (part out 27 (27 + l)) (length-part out 27 (27 + l) (omega arith) (omega (arith, fits)) ∙ omega arith) (leb-true l 1024 (held .0))
 
 -- a beginning is never under 3 or 6, so it is as it was
 opens-none : (c : ℕ) → isOpen (modeOf c) ≡ true → isKept c ≡ false
@@ -131,10 +126,7 @@ opens-none c o =
 
 pub begin-as-in-1-4 : (x : Exchanges) (c : ℕ) (out : List ℕ) (d : Draft) (l : ℕ) → begunBy in14 rows x c out d l ≡ begunVerdict rows x c out d l
 begin-as-in-1-4 x c out d l =
-    ap (inOrder (beginTests x c))
-    (by-test (isGood (inOrder (openingTests out d l) good)) (λ g. goes-on (openingTests out d l) _ refl g ∙ same g ∙ sym (goes-on (openingTests out d l) _ refl g))
-    (λ g. stays (openingTests out d l) _ g ∙ sym (stays (openingTests out d l) _ g)))
-    ∙ begun-now rows x c out d l
+    ap (inOrder (beginTests x c)) (behind (openingTests out d l) _ _ refl same) ∙ begun-now rows x c out d l
   where
     h : Header
     h = headed x c d (found x c .serial)
