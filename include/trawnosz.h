@@ -457,8 +457,9 @@ trawnosz_replied trawnosz_reply_bad_answer(trawnosz_exchanges table, trawnosz_ad
  *     6 deny         trawnosz_reply_deny      the refusal                    the refusal
  *     any other      nothing is told          the refusal                    the refusal
  *
- * A reply refuses STATE, STRAY as its single call does. The refusal is the judge's, number and place; it and a good packet
- * that is no reply leave the table as it came, whatever is in it, with outcome NOTHING. */
+ * What a confirm or a deny carries makes no difference. A reply refuses STATE, STRAY as its single call does. The refusal is
+ * the judge's, number and place; it and a good packet that is no reply leave the table as it came, whatever is in it, with
+ * outcome NOTHING. */
 trawnosz_replied trawnosz_take_packet(trawnosz_exchanges table, const uint8_t *packet, size_t packet_length);
 
 /* One tick of every place of both centres, each with its report. Refuses STATE. */
