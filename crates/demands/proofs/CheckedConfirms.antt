@@ -1,5 +1,5 @@
 -- The cases of document 02's Q-2, confirms that carry something, as rows of the one table of checked examples (Checked). Assumes nothing.
-use Prim.Native.Nat.{ℕ, _+_, _%_}
+use Prim.Native.Nat.{ℕ, _%_}
 use mathlib.Core.List.{List, [], _∷_, _++_, map}
 use mathlib.Core.Path.{_≡_, refl}
 use lib.ListN.{length, set, take, drop, replicate}
@@ -48,7 +48,7 @@ reply p =
 abbrev none : List ℕ
 none = of good ++ (0 ∷ 1 ∷ 1 ∷ 1 ∷ [])
 
-abbrev pub A-with-FF : List ℕ
+abbrev A-with-FF : List ℕ
 A-with-FF = take 24 A ++ (0x01 ∷ 0x00 ∷ 0x03 ∷ 0xFF ∷ 0x5D ∷ 0x23 ∷ 0x23 ∷ [])
 
 -- a header as A's under another command

@@ -1,5 +1,5 @@
 -- The cases of document 02's Q-1, panels without a clock, as rows of the one table of checked examples (Checked). Assumes nothing.
-use Prim.Native.Nat.{ℕ, _+_}
+use Prim.Native.Nat.{ℕ}
 use mathlib.Core.List.{List, [], _∷_, _++_, map}
 use mathlib.Core.Path.{_≡_, refl}
 use lib.ListN.{set, take, drop, replicate}

@@ -52,20 +52,18 @@ use Rattle.verdict.specs.Orders.{good, isGood, partIn}
 
 -- DEMAND 2: "An accepted packet, written again from its fields, has the same bytes; a packet we write reads back as the same fields."
 -- o is what the reader answers of the packet p; the output is any that has room and in which the packet's unit stands from byte 28
-pub packet-again : (p out : List ℕ) (o : Opened) → Octets p → o ≡ openedPacket rows p → isGood (o .verdict) ≡ true
-    → 30 + o .length ≤ length out → part out 27 (27 + o .length) ≡ unitOf p
-    → (isGood (packetVerdict rows out (o .header) (o .length)) ≡ true)
+abbrev pub WrittenAgain : List ℕ → List ℕ → Opened → Type 0
+WrittenAgain p out o =
+    (isGood (packetVerdict rows out (o .header) (o .length)) ≡ true)
     × (take (30 + o .length) (writtenPacket rows out (o .header) (o .length)) ≡ p)
     × (drop (30 + o .length) (writtenPacket rows out (o .header) (o .length)) ≡ drop (30 + o .length) out)
+
+pub packet-again : (p out : List ℕ) (o : Opened) → Octets p → o ≡ openedPacket rows p → isGood (o .verdict) ≡ true
+    → 30 + o .length ≤ length out → part out 27 (27 + o .length) ≡ unitOf p → WrittenAgain p out o
 packet-again p out o bytes read accepted =
     let told = opened-is rows p (ap (λ (x : Opened). isGood (x .verdict)) (sym read) ∙ accepted) in
     subst
-    (λ (x : Opened).
-    30 + x .length ≤ length out
-    → part out 27 (27 + x .length) ≡ unitOf p
-    → (isGood (packetVerdict rows out (x .header) (x .length)) ≡ true)
-    × (take (30 + x .length) (writtenPacket rows out (x .header) (x .length)) ≡ p)
-    × (drop (30 + x .length) (writtenPacket rows out (x .header) (x .length)) ≡ drop (30 + x .length) out))
+    (λ (x : Opened). 30 + x .length ≤ length out → part out 27 (27 + x .length) ≡ unitOf p → WrittenAgain p out x)
     (sym (read ∙ told .1))
     (λ room stands. (
       again-good rows p bytes (told .0) out room stands,
@@ -74,13 +72,16 @@ packet-again p out o bytes read accepted =
     ))
 
 -- what is written is accepted, and reads back as the same fields, length and unit, with what the label is judged to be; what stands beyond it stays
-pub packet-read-back : (out : List ℕ) (h : Header) (l : ℕ) → Fitting h → isGood (packetVerdict rows out h l) ≡ true
-    → (isGood (judgedPacket rows (take (30 + l) (writtenPacket rows out h l))) ≡ true)
+abbrev pub ReadsBack : List ℕ → Header → ℕ → Type 0
+ReadsBack out h l =
+    (isGood (judgedPacket rows (take (30 + l) (writtenPacket rows out h l))) ≡ true)
     × (openedPacket rows (take (30 + l) (writtenPacket rows out h l)) .header ≡ h)
     × (openedPacket rows (take (30 + l) (writtenPacket rows out h l)) .shown ≡ shownAs (judged (h .label)))
     × (openedPacket rows (take (30 + l) (writtenPacket rows out h l)) .length ≡ l)
     × (unitOf (take (30 + l) (writtenPacket rows out h l)) ≡ part out 27 (27 + l))
     × (drop (30 + l) (writtenPacket rows out h l) ≡ drop (30 + l) out)
+
+pub packet-read-back : (out : List ℕ) (h : Header) (l : ℕ) → Fitting h → isGood (packetVerdict rows out h l) ≡ true → ReadsBack out h l
 packet-read-back out h l fit g =
     let there = sent-there rows out h l fit g in (
       ap (λ (q : List ℕ). isGood (judgedPacket rows q)) there ∙ sent-good rows out h l fit g,

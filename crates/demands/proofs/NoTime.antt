@@ -1,18 +1,17 @@
 -- Document 02, Q-1, panels without a clock: what is shown of a label, and the round trips of demand 2 with no time. Assumes nothing.
-use Prim.Native.Nat.{ℕ, suc, _+_, _≤_, _<_}
+use Prim.Native.Nat.{ℕ, suc, _+_, _≤_}
 use native.Mathlib.Omega.{arith}
 use mathlib.Core.Bool.{Bool, true, false, false≢true, cond}
-use mathlib.Core.List.{List, [], _∷_}
-use mathlib.Core.Path.{_≡_, refl, sym, ap, subst, _∙_}
+use mathlib.Core.List.{List, []}
+use mathlib.Core.Path.{_≡_, refl, sym, ap, _∙_}
 use borrow.Author.Tests.{le-leb}
-use lib.ListN.{length, take, drop, replicate}
-use Rattle.fields.specs.declared.Fields.{Fields}
+use lib.ListN.{length, take, replicate}
 use Rattle.fields.specs.Layouts.{fieldsFrom, fieldsIn, nothing, objectBytes}
 use Rattle.frame.specs.Frame.{unitLength, frameTests}
 use Rattle.kinds.specs.Table.{Entry, NONE, table, rows, entryOf}
 use Rattle.label.specs.declared.Label.{Label}
 use Rattle.label.specs.declared.Judgement.the-variants.{Time, NoTime}
-use Rattle.label.specs.Times.{labelBytes, isNoTime, judged, allowed, timeOf, shownAs, SHOWN_NOTHING, SHOWN_NO_LABEL}
+use Rattle.label.specs.Times.{labelBytes, isNoTime, judged, allowed, shownAs, SHOWN_NOTHING, SHOWN_NO_LABEL}
 use Rattle.label.proofs.Ranges.{no-time-zeros}
 use Rattle.label.proofs.Judging.{no-time-judged, time-judged}
 use Rattle.objects.specs.Series.{readAt}
@@ -24,7 +23,7 @@ use Rattle.octets.proofs.Flags.{by-test}
 use Rattle.octets.proofs.Numbers.{low-bound}
 use Rattle.output.specs.Writing.{packetVerdict, writtenPacket}
 use Rattle.output.proofs.Promises.{opened-is}
-use Rattle.output.proofs.Sent.{Fitting, header-sent}
+use Rattle.output.proofs.Sent.{header-sent}
 use Rattle.packet.specs.declared.Header.{Header}
 use Rattle.packet.specs.declared.Opened.{Opened}
 use Rattle.packet.specs.Frames.{unitOf, judgedPacket}
@@ -38,7 +37,7 @@ use Rattle.typed.specs.declared.Typed.{Typed}
 use Rattle.typed.specs.Typing.{shownIn, showing, typedAt, typedObject}
 use Rattle.typed.proofs.Shown.{labelled-stands}
 use Rattle.unit.specs.declared.Carrier.the-variants.{Any}
-use Rattle.unit.specs.Objects.{typeOf, countOf, objectAt}
+use Rattle.unit.specs.Objects.{typeOf, countOf}
 use Rattle.unit.specs.Places.{objectPlace}
 use Rattle.unit.specs.Units.{rowOf, judgedUnit}
 use Rattle.unit.proofs.Good.{good-number, good-place}
@@ -61,7 +60,7 @@ pub record PacketShows (o : Opened) : Type 0 where
   pub no-time : isGood (o .verdict) ≡ true → isNoTime (o .header .label) ≡ true → o .shown ≡ shownAs NoTime
 
 -- a reading's verdict is the judge's, and where it is refused it shows nothing
-packet-verdict : (p : List ℕ) → (openedPacket rows p .verdict ≡ judgedPacket rows p) × (isGood (judgedPacket rows p) ≡ false → openedPacket rows p .shown ≡ SHOWN_NOTHING)
+pub packet-verdict : (p : List ℕ) → (openedPacket rows p .verdict ≡ judgedPacket rows p) × (isGood (judgedPacket rows p) ≡ false → openedPacket rows p .shown ≡ SHOWN_NOTHING)
 unfolding openedPacket
 packet-verdict p = go (isGood (judgedPacket rows p)) refl
   where

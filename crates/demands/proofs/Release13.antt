@@ -21,7 +21,7 @@ use Rattle.packet.specs.Headers.{headerOf}
 use Rattle.reply.specs.declared.Due.the-variants.{Confirm, Deny}
 use Rattle.reply.specs.Replies.{toGood, toRefused}
 use Rattle.unit.specs.declared.Carrier.the-variants.{Any}
-use Rattle.verdict.specs.Orders.{refusal, isGood}
+use Rattle.verdict.specs.Orders.{inOrder, refusal, good, isGood}
 use Rattle.verdict.specs.Refusals.{TIME}
 use Rattle.demands.specs.Rules.{in13, in14, unitBy, underBy, contentBy, packetBy, writerBy, begunBy, objectBy, dueAs, dueBy, replyAs, replyBy, takeAs, takenBy}
 use Rattle.demands.specs.Release13.{ObjectWithoutTime, WithoutTime, NewWithoutTime, Newly, Narrowed}
@@ -63,10 +63,10 @@ write-object-as-in-1-3 u k f d = object-narrowed rows u k f d
 -- a packet judged as before gets the same reply under a label that is judged as before, and is the same to the exchange table
 pub reply-as-in-1-3 : (p : List ℕ) (t : Label) (out : List ℕ) → isNoTime t ≡ false → contentBy in13 rows p ≡ contentBy in14 rows p
     → (dueBy in13 rows p ≡ dueBy in14 rows p) × (replyBy in13 rows p t out ≡ replyBy in14 rows p t out)
-reply-as-in-1-3 p t out z e = (ap (dueAs p) e, λ i. replyAs p out (allowed (sym (as-in-13 t z) i)) (e i))
+reply-as-in-1-3 p t out z e = (ap (dueAs p) e, λ i. replyAs p out (allowed (sym (as-in-13 t z) i)) (dueAs p (e i)))
 
 pub take-as-in-1-3 : (x : Exchanges) (p : List ℕ) → contentBy in13 rows p ≡ contentBy in14 rows p → takenBy in13 rows x p ≡ takenBy in14 rows x p
-take-as-in-1-3 x p e = ap (takeAs x p) e
+take-as-in-1-3 x p e = λ i. takeAs x p (isGood (inOrder (frameTests 1024 p) good)) (e i) (inOrder (frameTests 1024 p) (e i))
 
 -- "we deny each report until it fails": a report that was refused for six zeros alone is confirmed by 1.4
 pub confirmed-in-1-4 : (p : List ℕ) (P : ℕ → Type 0) → Newly P (contentBy in13 rows p) (contentBy in14 rows p) → isGood (contentBy in14 rows p) ≡ true

@@ -3,15 +3,14 @@
 use Prim.Native.Nat.{ℕ, _+_, _≤_}
 use native.Mathlib.Omega.{arith}
 use mathlib.Core.Bool.{Bool, true, false, _&&_, cond, false≢true, and-eq-true-iff}
-use mathlib.Core.List.{List, [], _∷_}
+use mathlib.Core.List.{List, []}
 use mathlib.Core.Path.{_≡_, refl, sym, ap, _∙_}
 use borrow.Author.Tests.{leb-true, leb-false, le-leb, lt-leb}
 use lib.Dec.{leb}
 use lib.ListN.{length}
 use Rattle.exchange.specs.declared.Draft.{Draft}
 use Rattle.exchange.specs.declared.Exchanges.{Exchanges}
-use Rattle.exchange.specs.declared.Replied.{Replied}
-use Rattle.exchange.specs.Begins.{headed, modeOf, openingTests, begunVerdict}
+use Rattle.exchange.specs.Begins.{headed, modeOf, openingTests, begunVerdict, begun, begunOutput}
 use Rattle.exchange.specs.Table.{beginTests, found, untold}
 use Rattle.frame.specs.Frame.{unitLength, frameTests}
 use Rattle.kinds.specs.Table.{rows}
@@ -19,14 +18,16 @@ use Rattle.label.specs.declared.Label.{Label}
 use Rattle.label.specs.Times.{judged, allowed}
 use Rattle.octets.specs.Parts.{part}
 use Rattle.octets.proofs.Flags.{by-test}
-use Rattle.output.specs.Writing.{roomTests, fieldTests, packetVerdict}
+use Rattle.output.specs.Writing.{roomTests, fieldTests, packetVerdict, writtenPacket}
+use Rattle.output.proofs.Carried.{output-long}
 use Rattle.packet.specs.declared.Header.{Header}
 use Rattle.packet.specs.Frames.{commandOf, unitOf, headerTests, judgedPacket, unitPlace}
 use Rattle.packet.specs.Headers.{headerOf, openedPacket}
+use Rattle.packet.proofs.Carried.{unit-long}
 use Rattle.place.specs.Rules.{isOpen}
 use Rattle.reply.specs.declared.Due.{Due}
 use Rattle.reply.specs.declared.Due.the-variants.{Nothing}
-use Rattle.reply.specs.Replies.{isDue, dueTo, replyVerdict}
+use Rattle.reply.specs.Replies.{dueTo, answered, writtenReply}
 use Rattle.reply.proofs.Promises.{none-to-kept}
 use Rattle.taking.specs.declared.Role.{Role}
 use Rattle.taking.specs.declared.Role.the-variants.{Other}
@@ -34,15 +35,15 @@ use Rattle.taking.specs.Takes.{roleIn, takenAs, taken}
 use Rattle.unit.specs.Units.{isKept, emptyTests, judgedUnder}
 use Rattle.unit.proofs.Under.{by-kept, kept-command, kept-good}
 use Rattle.verdict.specs.declared.Verdict.{Verdict}
-use Rattle.verdict.specs.Orders.{Test, _or-else_, inOrder, refusal, good, isGood, refusing}
-use Rattle.verdict.specs.Refusals.{UNIT, TIME, ROOM}
-use Rattle.verdict.proofs.Order.{passed, failed, good-held, held-good, stays, goes-on}
-use Rattle.demands.specs.Rules.{in14, in15, underBy, contentBy, packetBy, writerBy, begunBy, readAs, placeAs, dueAs, dueBy, replyBy, takeAs, takenBy}
+use Rattle.verdict.specs.Orders.{Test, _or-else_, inOrder, refusal, good, isGood, refusing, noPart, partBy}
+use Rattle.verdict.specs.Refusals.{UNIT, TIME}
+use Rattle.verdict.proofs.Order.{passed, failed, good-held, held-good, stays, goes-on, exchanged}
+use Rattle.demands.specs.Rules.{in14, in15, underBy, contentBy, packetBy, writerBy, begunBy, dueBy, replyBy, takenBy}
+use Rattle.demands.specs.Rules.{readAs, placeAs, writtenAs, begunAs, begunOutputAs, dueAs, replyAs, answerAs, writtenReplyAs, takeAs}
 use Rattle.demands.specs.Release13.{WithoutTime}
-use Rattle.demands.specs.Release14.{carriesSome, newlyGood, saidIn14}
-use Rattle.demands.proofs.Confirms.{behind, unit-long, output-long}
+use Rattle.demands.specs.Release14.{carriesSome, newlyGood, saidIn14, isNew}
 use Rattle.demands.proofs.Release13.{packet-spares-zeros}
-use Rattle.demands.proofs.ThisRelease.{under-now, packet-now, writer-now, begun-now, due-now, reply-now, taken-now}
+use Rattle.demands.proofs.ThisRelease.{under-now, packet-now, writer-now, begun-now, begins-now, due-now, replied-now, taken-now}
 
 -- where 1.4 says the same: of what is refused, and under every other command
 module _ (c l : ℕ) where
@@ -109,48 +110,92 @@ pub packet-as-in-1-4 : (p : List ℕ) → packetBy in14 rows p ≡ saidIn14 (com
 packet-as-in-1-4 p =
     said-over (commandOf p) (unitLength p) (frameTests 1024 p) _ _ refl (content-said p) ∙ ap (saidIn14 (commandOf p) (unitLength p)) (packet-now rows p)
 
--- so with the packet writer
-pub write-packet-as-in-1-4 : (out : List ℕ) (h : Header) (l : ℕ) → writerBy in14 rows out h l ≡ saidIn14 (h .command) l (packetVerdict rows out h l)
-write-packet-as-in-1-4 out h l =
-    said-over (h .command) l (roomTests out l 30) _ _ refl
-    (λ g.
-    let fits = output-long out l g in
-    said-over (h .command) l (fieldTests h) _ _ refl (λ t. under-said (h .command) l (part out 27 (27 + l)) (fits .0) (fits .1)))
-    ∙ ap (saidIn14 (h .command) l) (writer-now rows out h l)
+-- so with the packet writer, which then writes nothing
+module _ (out : List ℕ) (h : Header) (l : ℕ) where
+  writer-said : writerBy in14 rows out h l ≡ saidIn14 (h .command) l (packetVerdict rows out h l)
+  writer-said =
+      said-over (h .command) l (roomTests out l 30) _ _ refl
+      (λ g.
+      let fits = output-long out l g in
+      said-over (h .command) l (fieldTests h) _ _ refl (λ t. under-said (h .command) l (part out 27 (27 + l)) (fits .0) (fits .1)))
+      ∙ ap (saidIn14 (h .command) l) (writer-now rows out h l)
 
--- a beginning is never under 3 or 6, so it is as it was
+  pub write-packet-as-in-1-4 : (writerBy in14 rows out h l ≡ saidIn14 (h .command) l (packetVerdict rows out h l))
+      × (writtenAs out h l (writerBy in14 rows out h l) ≡ cond (newlyGood (h .command) l (packetVerdict rows out h l)) out (writtenPacket rows out h l))
+  unfolding writtenPacket
+  write-packet-as-in-1-4 = (writer-said, ap (writtenAs out h l) writer-said ∙ go (newlyGood (h .command) l (packetVerdict rows out h l)))
+    where
+      go : (b : Bool) → writtenAs out h l (cond b (refusal UNIT 0) (packetVerdict rows out h l)) ≡ cond b out (writtenAs out h l (packetVerdict rows out h l))
+      go true = refl
+      go false = refl
+
+-- a beginning is never under 3 or 6, so it is as it was: verdict, place, serial, table and every byte of the output
 opens-none : (c : ℕ) → isOpen (modeOf c) ≡ true → isKept c ≡ false
 unfolding isOpen modeOf
 opens-none c o =
     by-test (isKept c) (λ e. absurd (by-kept (λ (k : ℕ). isOpen (modeOf k) ≡ true → ⊥) c e (λ q. false≢true q) (λ q. false≢true q) o)) (λ e. e)
 
-pub begin-as-in-1-4 : (x : Exchanges) (c : ℕ) (out : List ℕ) (d : Draft) (l : ℕ) → begunBy in14 rows x c out d l ≡ begunVerdict rows x c out d l
-begin-as-in-1-4 x c out d l =
-    ap (inOrder (beginTests x c)) (behind (openingTests out d l) _ _ refl same) ∙ begun-now rows x c out d l
+module _ (x : Exchanges) (c : ℕ) (out : List ℕ) (d : Draft) (l : ℕ) where
+  abbrev head : Header
+  head = headed x c d (found x c .serial)
+
+  writer-same : isGood (inOrder (openingTests out d l) good) ≡ true → writerBy in14 rows out head l ≡ writerBy in15 rows out head l
+  writer-same g =
+      let begins = good-held (openingTests out d l) good refl g .0 .1 .1 .0 in
+      writer-said out head l ∙ said-other (d .command) l (packetVerdict rows out head l) (opens-none (d .command) begins) ∙ sym (writer-now rows out head l)
+
+  begun-same : begunBy in14 rows x c out d l ≡ begunBy in15 rows x c out d l
+  begun-same = ap (inOrder (beginTests x c)) (exchanged (openingTests out d l) _ _ refl writer-same)
+
+  -- where it is good the writer was asked, so that it wrote the same
+  output-same : begunOutputAs x c out d l (begunBy in14 rows x c out d l) (writerBy in14 rows out head l)
+      ≡ begunOutputAs x c out d l (begunBy in15 rows x c out d l) (writerBy in15 rows out head l)
+  output-same =
+      ap (λ (v : Verdict). begunOutputAs x c out d l v (writerBy in14 rows out head l)) begun-same
+      ∙ by-test (isGood (begunBy in15 rows x c out d l))
+      (λ g. ap (begunOutputAs x c out d l (begunBy in15 rows x c out d l)) (writer-same (asked g)))
+      (λ g. simp g)
+    where
+      asked : isGood (begunBy in15 rows x c out d l) ≡ true → isGood (inOrder (openingTests out d l) good) ≡ true
+      asked g =
+          let behind = good-held (beginTests x c) _ refl g .1 in
+          held-good (openingTests out d l) (good-held (openingTests out d l) (writerBy in15 rows out head l) refl behind .0)
+
+  pub begin-as-in-1-4 : (begunBy in14 rows x c out d l ≡ begunVerdict rows x c out d l)
+      × (begunAs x c d l (begunBy in14 rows x c out d l) ≡ begun rows x c out d l)
+      × (begunOutputAs x c out d l (begunBy in14 rows x c out d l) (writerBy in14 rows out head l) ≡ begunOutput rows x c out d l)
+  begin-as-in-1-4 = (
+    begun-same ∙ begun-now rows x c out d l,
+    ap (begunAs x c d l) begun-same ∙ begins-now rows x c out d l .0,
+    output-same ∙ begins-now rows x c out d l .1,
+  )
+
+-- what is read of a packet and where its unit stands follow from the judge's word
+pub read-as-in-1-4 : (p : List ℕ)
+    → (readAs p (packetBy in14 rows p) ≡ cond (isNew rows p) (readAs p (refusal UNIT 0)) (openedPacket rows p))
+    × (placeAs p (packetBy in14 rows p) ≡ cond (isNew rows p) (noPart (refusal UNIT 0)) (unitPlace rows p))
+unfolding openedPacket unitPlace partBy
+read-as-in-1-4 p = (ap (readAs p) (packet-as-in-1-4 p) ∙ read (isNew rows p), ap (placeAs p) (packet-as-in-1-4 p) ∙ place (isNew rows p))
   where
-    h : Header
-    h = headed x c d (found x c .serial)
+    read : (b : Bool) → readAs p (cond b (refusal UNIT 0) (judgedPacket rows p)) ≡ cond b (readAs p (refusal UNIT 0)) (readAs p (judgedPacket rows p))
+    read true = refl
+    read false = refl
 
-    same : isGood (inOrder (openingTests out d l) good) ≡ true → writerBy in14 rows out h l ≡ writerBy in15 rows out h l
-    same g =
-        let begins = good-held (openingTests out d l) good refl g .0 .1 .1 .0 in
-        write-packet-as-in-1-4 out h l ∙ said-other (d .command) l (packetVerdict rows out h l) (opens-none (d .command) begins) ∙ sym (writer-now rows out h l)
+    place : (b : Bool) → placeAs p (cond b (refusal UNIT 0) (judgedPacket rows p)) ≡ cond b (noPart (refusal UNIT 0)) (placeAs p (judgedPacket rows p))
+    place true = refl
+    place false = refl
 
--- what is read of a packet and where its unit stands follow from the judge's word, so they too differ there alone
-pub read-as-in-1-4 : (p : List ℕ) → newlyGood (commandOf p) (unitLength p) (judgedPacket rows p) ≡ false
-    → (readAs p (packetBy in14 rows p) ≡ openedPacket rows p) × (placeAs p (packetBy in14 rows p) ≡ unitPlace rows p)
-unfolding openedPacket unitPlace
-read-as-in-1-4 p e =
-    let same : packetBy in14 rows p ≡ judgedPacket rows p = packet-as-in-1-4 p ∙ simp e in
-    (ap (readAs p) same, ap (placeAs p) same)
-
--- the reply is the same to every packet
-pub reply-as-in-1-4 : (p : List ℕ) (t : Label) (out : List ℕ) → (dueBy in14 rows p ≡ dueTo rows p) × (replyBy in14 rows p t out ≡ replyVerdict rows p t out)
-reply-as-in-1-4 p t out = (due ∙ due-now rows p, ap replied due ∙ reply-now rows p t out)
+-- the reply is the same to every packet: what is due, the answer and every byte of the output
+pub reply-as-in-1-4 : (p : List ℕ) (t : Label) (out : List ℕ)
+    → (dueBy in14 rows p ≡ dueTo rows p)
+    × (answerAs (replyBy in14 rows p t out) (dueBy in14 rows p) ≡ answered rows p t out)
+    × (writtenReplyAs p t out (replyBy in14 rows p t out) (dueBy in14 rows p) ≡ writtenReply rows p t out)
+reply-as-in-1-4 p t out = (
+  due ∙ due-now rows p,
+  ap (λ (d : Due). answerAs (replyAs p out (allowed (judged t)) d) d) due ∙ replied-now rows p t out .0,
+  ap (λ (d : Due). writtenReplyAs p t out (replyAs p out (allowed (judged t)) d) d) due ∙ replied-now rows p t out .1,
+)
   where
-    replied : Due → Verdict
-    replied d = inOrder (frameTests 1024 p) (inOrder (cond (isDue d) ((allowed (judged t) or-else TIME) ∷ (leb 30 (length out) or-else ROOM) ∷ []) []) good)
-
     none : isKept (commandOf p) ≡ true → (v : Verdict) → dueAs p v ≡ Nothing
     none e v = none-to-kept (commandOf p) (isGood v) e
 
@@ -159,44 +204,36 @@ reply-as-in-1-4 p t out = (due ∙ due-now rows p, ap replied due ∙ reply-now 
 
 -- to the exchange table release 1.4 takes a good confirm or deny that carries something for a refused packet, and every other packet as now
 module _ (x : Exchanges) (p : List ℕ) where
-  abbrev differs : Bool
-  differs = newlyGood (commandOf p) (unitLength p) (judgedPacket rows p)
-
-  -- b is whether the frame is good
-  abbrev takeOf : Bool → Verdict → Verdict → Replied
-  takeOf b v w = takenAs (cond b (roleIn (isGood v) (commandOf p)) Other) x (headerOf p .source) (headerOf p .serial) w
-
   -- a packet that is kept as bytes and refused is no reply
   no-role : isKept (commandOf p) ≡ true → roleIn false (commandOf p) ≡ Other
   unfolding roleIn
   no-role e = by-kept (λ (k : ℕ). roleIn false k ≡ Other) (commandOf p) e refl refl
 
   take-refused : isKept (commandOf p) ≡ true → isGood (inOrder (frameTests 1024 p) good) ≡ true → contentBy in14 rows p ≡ refusal UNIT 0
-      → takenBy in14 rows x p ≡ untold x (refusal UNIT 0)
+      → packetBy in14 rows p ≡ refusal UNIT 0 → takenBy in14 rows x p ≡ untold x (refusal UNIT 0)
   unfolding takenAs
-  take-refused e g c =
-      ap (takeAs x p) c
-      ∙ (λ i. takeOf (g i) (refusal UNIT 0) (goes-on (frameTests 1024 p) (refusal UNIT 0) refl g i))
-      ∙ ap (λ (r : Role). takenAs r x (headerOf p .source) (headerOf p .serial) (refusal UNIT 0)) (no-role e)
+  take-refused e g content told =
+      (λ i. takeAs x p (g i) (content i) (told i)) ∙ ap (λ (r : Role). takenAs r x (headerOf p .source) (headerOf p .serial) (refusal UNIT 0)) (no-role e)
 
   take-same : packetBy in14 rows p ≡ packetBy in15 rows p → takenBy in14 rows x p ≡ taken rows x p
   take-same same =
       by-test (isGood (inOrder (frameTests 1024 p) good))
-      (λ g. ap (takeAs x p) (sym (goes-on (frameTests 1024 p) _ refl g) ∙ same ∙ goes-on (frameTests 1024 p) _ refl g))
       (λ g.
-      (λ i. takeOf (g i) (contentBy in14 rows p) (same i)) ∙ sym (λ i. takeOf (g i) (contentBy in15 rows p) (packetBy in15 rows p)))
+      let content : contentBy in14 rows p ≡ contentBy in15 rows p = sym (goes-on (frameTests 1024 p) _ refl g) ∙ same ∙ goes-on (frameTests 1024 p) _ refl g in
+      λ i. takeAs x p (isGood (inOrder (frameTests 1024 p) good)) (content i) (same i))
+      (λ g. (λ i. takeAs x p (g i) (contentBy in14 rows p) (same i)) ∙ sym (λ i. takeAs x p (g i) (contentBy in15 rows p) (packetBy in15 rows p)))
       ∙ taken-now rows x p
 
-  pub take-as-in-1-4 : takenBy in14 rows x p ≡ cond (newlyGood (commandOf p) (unitLength p) (judgedPacket rows p)) (untold x (refusal UNIT 0)) (taken rows x p)
-  take-as-in-1-4 = by-test differs some (λ e. take-same (packet-as-in-1-4 p ∙ simp e (sym (packet-now rows p))) ∙ simp e)
+  pub take-as-in-1-4 : takenBy in14 rows x p ≡ cond (isNew rows p) (untold x (refusal UNIT 0)) (taken rows x p)
+  take-as-in-1-4 = by-test (isNew rows p) some (λ e. take-same (packet-as-in-1-4 p ∙ simp e (sym (packet-now rows p))) ∙ simp e)
     where
-      some : differs ≡ true → takenBy in14 rows x p ≡ cond differs (untold x (refusal UNIT 0)) (taken rows x p)
+      some : isNew rows p ≡ true → takenBy in14 rows x p ≡ cond (isNew rows p) (untold x (refusal UNIT 0)) (taken rows x p)
       some e =
           let both = and-eq-true-iff (carriesSome (commandOf p) (unitLength p)) (isGood (judgedPacket rows p)) .0 e in
           let kept = and-eq-true-iff (isKept (commandOf p)) (leb 1 (unitLength p)) .0 (both .0) .0 in
           let framed = held-good (frameTests 1024 p) (good-held (frameTests 1024 p) (contentBy in15 rows p) refl (ap isGood (packet-now rows p) ∙ both .1) .0) in
-          let told : contentBy in14 rows p ≡ refusal UNIT 0 = sym (goes-on (frameTests 1024 p) _ refl framed) ∙ packet-as-in-1-4 p ∙ simp e in
-          take-refused kept framed told ∙ simp e
+          let told : packetBy in14 rows p ≡ refusal UNIT 0 = packet-as-in-1-4 p ∙ simp e in
+          take-refused kept framed (sym (goes-on (frameTests 1024 p) _ refl framed) ∙ told) told ∙ simp e
 
 -- and what 1.4 changed stands: TIME is told of no label of six zeros
 pub packet-spares-zeros-still : (p : List ℕ) (i : ℕ) → WithoutTime (headerOf p .label) rows (unitOf p) i → judgedPacket rows p ≡ refusal TIME i → ⊥

@@ -4,23 +4,27 @@ use mathlib.Core.List.{List}
 use mathlib.Core.Path.{_≡_, refl, ap}
 use Rattle.exchange.specs.declared.Draft.{Draft}
 use Rattle.exchange.specs.declared.Exchanges.{Exchanges}
-use Rattle.exchange.specs.Begins.{begunVerdict}
+use Rattle.exchange.specs.Begins.{headed, begunVerdict, begun, begunOutput}
+use Rattle.exchange.specs.Table.{found}
 use Rattle.fields.specs.declared.Fields.{Fields}
+use Rattle.frame.specs.Frame.{frameTests}
 use Rattle.kinds.specs.declared.Row.{Row}
 use Rattle.kinds.specs.Table.{rows}
 use Rattle.label.specs.declared.Label.{Label}
 use Rattle.label.specs.Times.{judged, allowed}
 use Rattle.objects.specs.Writing.{isTimely, writeVerdict}
-use Rattle.output.specs.Writing.{packetVerdict}
+use Rattle.output.specs.Writing.{packetVerdict, writtenPacket}
 use Rattle.packet.specs.declared.Header.{Header}
 use Rattle.packet.specs.Frames.{judgedContent, judgedPacket, unitPlace}
 use Rattle.packet.specs.Headers.{openedPacket}
-use Rattle.reply.specs.Replies.{dueTo, replyVerdict}
+use Rattle.reply.specs.Replies.{dueTo, replyVerdict, answered, writtenReply}
 use Rattle.taking.specs.Takes.{roleOf, taken}
 use Rattle.unit.specs.declared.Carrier.{Carrier}
 use Rattle.unit.specs.Objects.{timely}
 use Rattle.unit.specs.Units.{judgedUnit, judgedUnder}
-use Rattle.demands.specs.Rules.{in15, timelyBy, unitBy, underBy, contentBy, packetBy, writerBy, begunBy, newTimelyBy, objectBy, readAs, placeAs, dueAs, dueBy, replyAs, replyBy, takeAs, takenBy}
+use Rattle.verdict.specs.Orders.{inOrder, good, isGood}
+use Rattle.demands.specs.Rules.{in15, timelyBy, unitBy, underBy, contentBy, packetBy, writerBy, begunBy, newTimelyBy, objectBy, dueBy, replyBy, takenBy}
+use Rattle.demands.specs.Rules.{readAs, placeAs, writtenAs, begunAs, begunOutputAs, dueAs, replyAs, answerAs, writtenReplyAs, takeAs}
 
 module _ (rs : List Row) where
   unit-now : (by : Carrier) (u : List ℕ) → unitBy judged rs by u ≡ judgedUnit rs by u
@@ -31,7 +35,7 @@ module _ (rs : List Row) where
   unfolding judgedUnder judgedUnit timelyBy timely
   under-now c u = refl
 
-  pub content-now : (p : List ℕ) → contentBy in15 rs p ≡ judgedContent rs p
+  content-now : (p : List ℕ) → contentBy in15 rs p ≡ judgedContent rs p
   unfolding judgedContent judgedUnder judgedUnit timelyBy timely
   content-now p = refl
 
@@ -51,39 +55,63 @@ module _ (rs : List Row) where
   unfolding writeVerdict newTimelyBy isTimely
   object-now u k f d = refl
 
+  pub written-now : (out : List ℕ) (h : Header) (l : ℕ) → writtenAs out h l (writerBy in15 rs out h l) ≡ writtenPacket rs out h l
+  unfolding writtenPacket
+  written-now out h l = ap (writtenAs out h l) (writer-now out h l)
+
+  pub begins-now : (x : Exchanges) (c : ℕ) (out : List ℕ) (d : Draft) (l : ℕ)
+      → (begunAs x c d l (begunBy in15 rs x c out d l) ≡ begun rs x c out d l)
+      × (begunOutputAs x c out d l (begunBy in15 rs x c out d l) (writerBy in15 rs out (headed x c d (found x c .serial)) l) ≡ begunOutput rs x c out d l)
+  unfolding begun begunOutput writtenPacket
+  begins-now x c out d l = (
+    ap (begunAs x c d l) (begun-now x c out d l),
+    λ i. begunOutputAs x c out d l (begun-now x c out d l i) (writer-now out (headed x c d (found x c .serial)) l i),
+  )
+
   pub due-now : (p : List ℕ) → dueBy in15 rs p ≡ dueTo rs p
   unfolding dueTo
   due-now p = ap (dueAs p) (content-now p)
 
   pub reply-now : (p : List ℕ) (t : Label) (out : List ℕ) → replyBy in15 rs p t out ≡ replyVerdict rs p t out
-  unfolding replyVerdict dueTo
-  reply-now p t out = ap (replyAs p out (allowed (judged t))) (content-now p)
+  unfolding replyVerdict
+  reply-now p t out = ap (replyAs p out (allowed (judged t))) (due-now p)
+
+  pub replied-now : (p : List ℕ) (t : Label) (out : List ℕ)
+      → (answerAs (replyBy in15 rs p t out) (dueBy in15 rs p) ≡ answered rs p t out) × (writtenReplyAs p t out (replyBy in15 rs p t out) (dueBy in15 rs p) ≡ writtenReply rs p t out)
+  unfolding answered writtenReply
+  replied-now p t out = (λ i. answerAs (reply-now p t out i) (due-now p i), λ i. writtenReplyAs p t out (reply-now p t out i) (due-now p i))
 
   pub taken-now : (x : Exchanges) (p : List ℕ) → takenBy in15 rs x p ≡ taken rs x p
-  unfolding taken roleOf judgedPacket
-  taken-now x p = ap (takeAs x p) (content-now p)
+  unfolding taken roleOf
+  taken-now x p = λ i. takeAs x p (isGood (inOrder (frameTests 1024 p) good)) (content-now p i) (packet-now p i)
 
-  pub read-now : (p : List ℕ) → (readAs p (packetBy in15 rs p) ≡ openedPacket rs p) × (placeAs p (packetBy in15 rs p) ≡ unitPlace rs p)
+  read-now : (p : List ℕ) → (readAs p (packetBy in15 rs p) ≡ openedPacket rs p) × (placeAs p (packetBy in15 rs p) ≡ unitPlace rs p)
   unfolding openedPacket unitPlace
   read-now p = (ap (readAs p) (packet-now p), ap (placeAs p) (packet-now p))
 
 pub this-release : ((by : Carrier) (u : List ℕ) → unitBy judged rows by u ≡ judgedUnit rows by u)
     × ((c : ℕ) (u : List ℕ) → underBy in15 rows c u ≡ judgedUnder rows c u)
-    × ((p : List ℕ) → (contentBy in15 rows p ≡ judgedContent rows p) × (packetBy in15 rows p ≡ judgedPacket rows p) × (dueBy in15 rows p ≡ dueTo rows p))
+    × ((p : List ℕ) → (contentBy in15 rows p ≡ judgedContent rows p) × (packetBy in15 rows p ≡ judgedPacket rows p))
     × ((p : List ℕ) → (readAs p (packetBy in15 rows p) ≡ openedPacket rows p) × (placeAs p (packetBy in15 rows p) ≡ unitPlace rows p))
-    × ((out : List ℕ) (h : Header) (l : ℕ) → writerBy in15 rows out h l ≡ packetVerdict rows out h l)
-    × ((x : Exchanges) (c : ℕ) (out : List ℕ) (d : Draft) (l : ℕ) → begunBy in15 rows x c out d l ≡ begunVerdict rows x c out d l)
+    × ((out : List ℕ) (h : Header) (l : ℕ) → (writerBy in15 rows out h l ≡ packetVerdict rows out h l) × (writtenAs out h l (writerBy in15 rows out h l) ≡ writtenPacket rows out h l))
+    × ((x : Exchanges) (c : ℕ) (out : List ℕ) (d : Draft) (l : ℕ)
+    → (begunBy in15 rows x c out d l ≡ begunVerdict rows x c out d l)
+    × (begunAs x c d l (begunBy in15 rows x c out d l) ≡ begun rows x c out d l)
+    × (begunOutputAs x c out d l (begunBy in15 rows x c out d l) (writerBy in15 rows out (headed x c d (found x c .serial)) l) ≡ begunOutput rows x c out d l))
     × ((u : List ℕ) (k : ℕ) (f : Fields) (d : List ℕ) → objectBy judged rows u k f d ≡ writeVerdict rows u k f d)
-    × ((p : List ℕ) (t : Label) (out : List ℕ) → replyBy in15 rows p t out ≡ replyVerdict rows p t out)
+    × ((p : List ℕ) (t : Label) (out : List ℕ)
+    → (dueBy in15 rows p ≡ dueTo rows p)
+    × (answerAs (replyBy in15 rows p t out) (dueBy in15 rows p) ≡ answered rows p t out)
+    × (writtenReplyAs p t out (replyBy in15 rows p t out) (dueBy in15 rows p) ≡ writtenReply rows p t out))
     × ((x : Exchanges) (p : List ℕ) → takenBy in15 rows x p ≡ taken rows x p)
 this-release = (
   unit-now rows,
   under-now rows,
-  λ p. (content-now rows p, packet-now rows p, due-now rows p),
+  λ p. (content-now rows p, packet-now rows p),
   read-now rows,
-  writer-now rows,
-  begun-now rows,
+  λ out h l. (writer-now rows out h l, written-now rows out h l),
+  λ x c out d l. (begun-now rows x c out d l, begins-now rows x c out d l .0, begins-now rows x c out d l .1),
   object-now rows,
-  reply-now rows,
+  λ p t out. (due-now rows p, replied-now rows p t out .0, replied-now rows p t out .1),
   taken-now rows,
 )

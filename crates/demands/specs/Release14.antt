@@ -1,7 +1,11 @@
 -- How release 1.5 differs from 1.4 (document 02, Q-2: "The standard says that this unit may be empty, and we made that 'is'"). Assumes nothing.
 use Prim.Native.Nat.{ℕ}
 use mathlib.Core.Bool.{Bool, _&&_, cond}
+use mathlib.Core.List.{List}
 use lib.Dec.{leb}
+use Rattle.frame.specs.Frame.{unitLength}
+use Rattle.kinds.specs.declared.Row.{Row}
+use Rattle.packet.specs.Frames.{commandOf, judgedPacket}
 use Rattle.unit.specs.Units.{isKept}
 use Rattle.verdict.specs.declared.Verdict.{Verdict}
 use Rattle.verdict.specs.Orders.{refusal, isGood}
@@ -18,3 +22,7 @@ newlyGood c l v = carriesSome c l && isGood v
 -- what release 1.4 says of command c with l bytes where this one says v: UNIT of these, of all others the same
 abbrev pub saidIn14 : ℕ → ℕ → Verdict → Verdict
 saidIn14 c l v = cond (newlyGood c l v) (refusal UNIT 0) v
+
+-- a packet that release 1.4 did not take and this one does
+abbrev pub isNew : List Row → List ℕ → Bool
+isNew rs p = newlyGood (commandOf p) (unitLength p) (judgedPacket rs p)

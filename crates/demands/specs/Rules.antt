@@ -1,16 +1,17 @@
--- The rules of a release, for what going back means (document 02: "Going back is also a release"): each order that a request moved, over the rules z of a release. At `in15` it is this
--- release's, by computation (`this-release`), at `in13` and `in14` that of releases 1.3 and 1.4.
+-- The rules of a release, for what going back means (document 02: "Going back is also a release"): each order that Q-1 or Q-2 moved, over the rules z of a release, and each answer over
+-- what the order says. At `in15` they are this release's, by computation (`this-release`), at `in13` and `in14` those of releases 1.3 and 1.4.
 -- Assumes nothing.
 use Prim.Native.Nat.{ℕ, suc, _+_}
 use mathlib.Core.Bool.{Bool, true, cond, _&&_}
 use mathlib.Core.List.{List, [], _∷_, _++_}
 use lib.Dec.{eqb, leb}
 use lib.ListN.{length, getD, drop}
+use Rattle.exchange.specs.declared.Begun.{Begun}
 use Rattle.exchange.specs.declared.Draft.{Draft}
 use Rattle.exchange.specs.declared.Exchanges.{Exchanges}
 use Rattle.exchange.specs.declared.Replied.{Replied}
-use Rattle.exchange.specs.Begins.{headed, openingTests}
-use Rattle.exchange.specs.Table.{beginTests, found}
+use Rattle.exchange.specs.Begins.{headed, modeOf, openingTests, unbegun}
+use Rattle.exchange.specs.Table.{beginTests, found, entered}
 use Rattle.fields.specs.declared.Fields.{Fields}
 use Rattle.frame.specs.Frame.{unitLength, frameTests}
 use Rattle.kinds.specs.declared.Row.{Row}
@@ -18,15 +19,18 @@ use Rattle.kinds.specs.Table.{NONE, descriptionSize}
 use Rattle.label.specs.declared.Label.{Label}
 use Rattle.label.specs.declared.Judgement.{Judgement}
 use Rattle.label.specs.Times.{labelOf, judged, judgedIn13, allowed, SHOWN_NOTHING}
-use Rattle.octets.specs.Parts.{part}
+use Rattle.octets.specs.Parts.{part, putAt}
 use Rattle.octets.specs.Searches.{firstRefused}
+use Rattle.output.specs.Packets.{packetBytes}
 use Rattle.output.specs.Writing.{roomTests}
 use Rattle.packet.specs.declared.Header.{Header}
 use Rattle.packet.specs.declared.Opened.{Opened}
 use Rattle.packet.specs.Frames.{commandOf, unitOf}
 use Rattle.packet.specs.Headers.{headerOf, noHeader, showing}
+use Rattle.reply.specs.declared.Answer.{Answer}
 use Rattle.reply.specs.declared.Due.{Due}
-use Rattle.reply.specs.Replies.{toGood, toRefused, isDue}
+use Rattle.reply.specs.declared.Due.the-variants.{Nothing}
+use Rattle.reply.specs.Replies.{toGood, toRefused, isDue, replyBytes}
 use Rattle.taking.specs.declared.Role.the-variants.{Other}
 use Rattle.taking.specs.Takes.{roleIn, takenAs}
 use Rattle.unit.specs.declared.Carrier.{Carrier}
@@ -124,25 +128,50 @@ readAs p v = cond (isGood v) (showing v (headerOf p) (unitLength p)) (record { v
 abbrev pub placeAs : List ℕ → Verdict → Part
 placeAs p v = partBy v 27 (27 + unitLength p)
 
--- what is due to a packet whose content is judged v, and the reply's order, b being whether its label may stand
+-- what is written where the packet writer says v
+abbrev pub writtenAs : List ℕ → Header → ℕ → Verdict → List ℕ
+writtenAs out h l v = cond (isGood v) (putAt out 0 (packetBytes h (part out 27 (27 + l)))) out
+
+-- what is begun where the call says v, and what is written where the packet writer then says w
+abbrev pub begunAs : Exchanges → ℕ → Draft → ℕ → Verdict → Begun
+begunAs x c d l v =
+    cond (isGood v)
+    (record {
+      verdict = v;
+      place = found x c .place;
+      length = 30 + l;
+      serial = found x c .serial;
+      state = entered x c (found x c .place) (found x c .serial) (modeOf (d .command));
+    })
+    (unbegun x v)
+
+abbrev pub begunOutputAs : Exchanges → ℕ → List ℕ → Draft → ℕ → Verdict → Verdict → List ℕ
+begunOutputAs x c out d l v w = cond (isGood v) (writtenAs out (headed x c d (found x c .serial)) l w) out
+
+-- what is due to a packet whose content is judged v
 abbrev pub dueAs : List ℕ → Verdict → Due
 dueAs p v = cond (isGood v) (toGood (commandOf p)) (toRefused (commandOf p))
 
 abbrev pub dueBy : Rules → List Row → List ℕ → Due
 dueBy z rs p = dueAs p (contentBy z rs p)
 
-abbrev pub replyAs : List ℕ → List ℕ → Bool → Verdict → Verdict
-replyAs p out b v =
-    inOrder (frameTests 1024 p) (inOrder (cond (isDue (dueAs p v)) ((b or-else TIME) ∷ (leb 30 (length out) or-else ROOM) ∷ []) []) good)
+-- the order of a reply where d is due, b being whether its label may stand, its answer, and what is written
+abbrev pub replyAs : List ℕ → List ℕ → Bool → Due → Verdict
+replyAs p out b d =
+    inOrder (frameTests 1024 p) (inOrder (cond (isDue d) ((b or-else TIME) ∷ (leb 30 (length out) or-else ROOM) ∷ []) []) good)
 
 abbrev pub replyBy : Rules → List Row → List ℕ → Label → List ℕ → Verdict
-replyBy z rs p t out = replyAs p out (allowed (z .labels t)) (contentBy z rs p)
+replyBy z rs p t out = replyAs p out (allowed (z .labels t)) (dueBy z rs p)
 
--- what a packet whose content is judged v does to the exchange table
-abbrev pub takeAs : Exchanges → List ℕ → Verdict → Replied
-takeAs x p v =
-    takenAs (cond (isGood (inOrder (frameTests 1024 p) good)) (roleIn (isGood v) (commandOf p)) Other)
-    x (headerOf p .source) (headerOf p .serial) (inOrder (frameTests 1024 p) v)
+abbrev pub answerAs : Verdict → Due → Answer
+answerAs v d = record { verdict = v; due = cond (isGood v) d Nothing }
+
+abbrev pub writtenReplyAs : List ℕ → Label → List ℕ → Verdict → Due → List ℕ
+writtenReplyAs p t out v d = cond (isGood v && isDue d) (putAt out 0 (replyBytes p t d)) out
+
+-- what a packet does to the exchange table, b being whether its frame is good, v what its content and w what all of it is judged to be
+abbrev pub takeAs : Exchanges → List ℕ → Bool → Verdict → Verdict → Replied
+takeAs x p b v w = takenAs (cond b (roleIn (isGood v) (commandOf p)) Other) x (headerOf p .source) (headerOf p .serial) w
 
 abbrev pub takenBy : Rules → List Row → Exchanges → List ℕ → Replied
-takenBy z rs x p = takeAs x p (contentBy z rs p)
+takenBy z rs x p = takeAs x p (isGood (inOrder (frameTests 1024 p) good)) (contentBy z rs p) (packetBy z rs p)

@@ -1,5 +1,6 @@
 pub mod Filling
 pub mod Judging
+pub mod Carried
 pub mod Lending
 pub mod Back
 pub mod Sent

@@ -31,7 +31,7 @@ use Rattle.output.proofs.Back.{accepted, packet-back}
 use Rattle.output.proofs.Sent.{Fitting, header-sent, length-sent, unit-sent, judged-sent, sent-long}
 
 -- bytes put at the front of a row are its beginning
-front : (o q : List ℕ) → length q ≤ length o → take (length q) (putAt o 0 q) ≡ q
+pub front : (o q : List ℕ) → length q ≤ length o → take (length q) (putAt o 0 q) ≡ q
 front o q h = ap (take (length q)) (put-from o 0 q (omega arith)) ∙ take-at q (drop (0 + length q) o) (length q) refl
 
 -- an accepted packet, and any output with room for it in which its unit stands

@@ -1,4 +1,5 @@
 pub mod Contents
 pub mod Heads
 pub mod Opening
+pub mod Carried
 pub mod Examples

@@ -1,4 +1,4 @@
--- The reply to a packet (document 01, "Replies"; 001, 6.2 to 6.4), over any table of types rs.
+-- The reply to a packet (document 01, "Replies"; 001, 6.2 to 6.4; document 02, Q-2), over any table of types rs.
 -- Assumes nothing.
 use Prim.Native.Nat.{ℕ}
 use mathlib.Core.Bool.{Bool, true, false, _||_, _&&_, cond}
@@ -49,7 +49,7 @@ abbrev pub replyHeader : Header → Label → ℕ → Header
 replyHeader h t c =
     record { serial = h .serial; version = h .version; label = t; source = h .destination; destination = h .source; command = c }
 
--- ".. and an empty unit"
+-- ".. and an empty unit"; document 02, Q-2: "Our own replies stay empty."
 abbrev pub replyBytes : List ℕ → Label → Due → List ℕ
 replyBytes p t d = packetBytes (replyHeader (headerOf p) t (commandFor d)) []
 

@@ -6,6 +6,7 @@ use mathlib.Core.Path.{_≡_, refl, sym, ap, _∙_}
 use mathlib.Core.List.{List, [], _∷_, _++_}
 use borrow.Author.Tests.{eqb-false}
 use lib.Dec.{eqb}
+use Rattle.octets.proofs.Flags as flags
 use Rattle.verdict.specs.declared.Verdict.{Verdict}
 use Rattle.verdict.specs.Orders.{Test, inOrder, good, isGood, noPart, partBy, Held, refusing}
 
@@ -63,6 +64,11 @@ stays (t ∷ ts) rest e = by-test (t .holds) e (stays ts rest)
 -- where they are all passed, it decides
 pub goes-on : (ts : List Test) (rest : Verdict) → refusing ts ≡ true → isGood (inOrder ts good) ≡ true → inOrder ts rest ≡ rest
 goes-on ts rest n g = all-passed ts rest (good-held ts good n g .0)
+
+-- so it can be exchanged for what is the same where they are passed
+pub exchanged : (ts : List Test) (v w : Verdict) → refusing ts ≡ true → (isGood (inOrder ts good) ≡ true → v ≡ w) → inOrder ts v ≡ inOrder ts w
+exchanged ts v w n e =
+    flags.by-test (isGood (inOrder ts good)) (λ g. goes-on ts v n g ∙ e g ∙ sym (goes-on ts w n g)) (λ g. stays ts v g ∙ sym (stays ts w g))
 
 -- and a good verdict of an order is the good one
 pub good-is : (ts : List Test) → refusing ts ≡ true → isGood (inOrder ts good) ≡ true → inOrder ts good ≡ good
