@@ -19,11 +19,11 @@ use Rattle.packet.specs.declared.Header.{Header}
 use Rattle.packet.specs.Frames.{commandOf, unitOf}
 use Rattle.packet.specs.Headers.{headerOf}
 use Rattle.reply.specs.declared.Due.the-variants.{Confirm, Deny}
-use Rattle.reply.specs.Replies.{toGood, toRefused}
+use Rattle.reply.specs.Replies.{toGood, toRefused, dueAs}
 use Rattle.unit.specs.declared.Carrier.the-variants.{Any}
 use Rattle.verdict.specs.Orders.{inOrder, refusal, good, isGood}
 use Rattle.verdict.specs.Refusals.{TIME}
-use Rattle.demands.specs.Rules.{in13, in14, unitBy, underBy, contentBy, packetBy, writerBy, begunBy, objectBy, dueAs, dueBy, replyAs, replyBy, takeAs, takenBy}
+use Rattle.demands.specs.Rules.{in13, in14, unitBy, underBy, contentBy, packetBy, writerBy, begunBy, objectBy, dueBy, replyAs, replyBy, takeAs, takenBy}
 use Rattle.demands.specs.Release13.{ObjectWithoutTime, WithoutTime, NewWithoutTime, Newly, Narrowed}
 use Rattle.demands.proofs.Narrowed.{over, unit-narrowed, under-narrowed, content-narrowed, writer-narrowed, begin-narrowed, object-narrowed, unit-spares, packet-spares}
 

@@ -10,7 +10,7 @@ use lib.Dec.{leb}
 use lib.ListN.{length}
 use Rattle.exchange.specs.declared.Draft.{Draft}
 use Rattle.exchange.specs.declared.Exchanges.{Exchanges}
-use Rattle.exchange.specs.Begins.{headed, modeOf, openingTests, begunVerdict, begun, begunOutput}
+use Rattle.exchange.specs.Begins.{headed, modeOf, openingTests, begunVerdict, begunAs, begun, begunOutput}
 use Rattle.exchange.specs.Table.{beginTests, found, untold}
 use Rattle.frame.specs.Frame.{unitLength, frameTests}
 use Rattle.kinds.specs.Table.{rows}
@@ -18,16 +18,16 @@ use Rattle.label.specs.declared.Label.{Label}
 use Rattle.label.specs.Times.{judged, allowed}
 use Rattle.octets.specs.Parts.{part}
 use Rattle.octets.proofs.Flags.{by-test}
-use Rattle.output.specs.Writing.{roomTests, fieldTests, packetVerdict, writtenPacket}
+use Rattle.output.specs.Writing.{roomTests, fieldTests, packetVerdict, writtenAs, writtenPacket}
 use Rattle.output.proofs.Carried.{output-long}
 use Rattle.packet.specs.declared.Header.{Header}
 use Rattle.packet.specs.Frames.{commandOf, unitOf, headerTests, judgedPacket, unitPlace}
-use Rattle.packet.specs.Headers.{headerOf, openedPacket}
+use Rattle.packet.specs.Headers.{headerOf, readAs, openedPacket}
 use Rattle.packet.proofs.Carried.{unit-long}
 use Rattle.place.specs.Rules.{isOpen}
 use Rattle.reply.specs.declared.Due.{Due}
 use Rattle.reply.specs.declared.Due.the-variants.{Nothing}
-use Rattle.reply.specs.Replies.{dueTo, answered, writtenReply}
+use Rattle.reply.specs.Replies.{dueAs, dueTo, answerAs, answered, writtenReplyAs, writtenReply}
 use Rattle.reply.proofs.Promises.{none-to-kept}
 use Rattle.taking.specs.declared.Role.{Role}
 use Rattle.taking.specs.declared.Role.the-variants.{Other}
@@ -39,7 +39,7 @@ use Rattle.verdict.specs.Orders.{Test, _or-else_, inOrder, refusal, good, isGoo
 use Rattle.verdict.specs.Refusals.{UNIT, TIME}
 use Rattle.verdict.proofs.Order.{passed, failed, good-held, held-good, stays, goes-on, exchanged}
 use Rattle.demands.specs.Rules.{in14, in15, underBy, contentBy, packetBy, writerBy, begunBy, dueBy, replyBy, takenBy}
-use Rattle.demands.specs.Rules.{readAs, placeAs, writtenAs, begunAs, begunOutputAs, dueAs, replyAs, answerAs, writtenReplyAs, takeAs}
+use Rattle.demands.specs.Rules.{placeAs, begunOutputAs, replyAs, takeAs}
 use Rattle.demands.specs.Release13.{WithoutTime}
 use Rattle.demands.specs.Release14.{carriesSome, newlyGood, saidIn14, isNew}
 use Rattle.demands.proofs.Release13.{packet-spares-zeros}

@@ -4,7 +4,7 @@ use mathlib.Core.List.{List}
 use mathlib.Core.Path.{_≡_, refl, ap}
 use Rattle.exchange.specs.declared.Draft.{Draft}
 use Rattle.exchange.specs.declared.Exchanges.{Exchanges}
-use Rattle.exchange.specs.Begins.{headed, begunVerdict, begun, begunOutput}
+use Rattle.exchange.specs.Begins.{headed, begunVerdict, begunAs, begun, begunOutput}
 use Rattle.exchange.specs.Table.{found}
 use Rattle.fields.specs.declared.Fields.{Fields}
 use Rattle.frame.specs.Frame.{frameTests}
@@ -13,18 +13,18 @@ use Rattle.kinds.specs.Table.{rows}
 use Rattle.label.specs.declared.Label.{Label}
 use Rattle.label.specs.Times.{judged, allowed}
 use Rattle.objects.specs.Writing.{isTimely, writeVerdict}
-use Rattle.output.specs.Writing.{packetVerdict, writtenPacket}
+use Rattle.output.specs.Writing.{packetVerdict, writtenAs, writtenPacket}
 use Rattle.packet.specs.declared.Header.{Header}
 use Rattle.packet.specs.Frames.{judgedContent, judgedPacket, unitPlace}
-use Rattle.packet.specs.Headers.{openedPacket}
-use Rattle.reply.specs.Replies.{dueTo, replyVerdict, answered, writtenReply}
+use Rattle.packet.specs.Headers.{readAs, openedPacket}
+use Rattle.reply.specs.Replies.{dueAs, dueTo, replyVerdict, answerAs, answered, writtenReplyAs, writtenReply}
 use Rattle.taking.specs.Takes.{roleOf, taken}
 use Rattle.unit.specs.declared.Carrier.{Carrier}
 use Rattle.unit.specs.Objects.{timely}
 use Rattle.unit.specs.Units.{judgedUnit, judgedUnder}
 use Rattle.verdict.specs.Orders.{inOrder, good, isGood}
 use Rattle.demands.specs.Rules.{in15, timelyBy, unitBy, underBy, contentBy, packetBy, writerBy, begunBy, newTimelyBy, objectBy, dueBy, replyBy, takenBy}
-use Rattle.demands.specs.Rules.{readAs, placeAs, writtenAs, begunAs, begunOutputAs, dueAs, replyAs, answerAs, writtenReplyAs, takeAs}
+use Rattle.demands.specs.Rules.{placeAs, begunOutputAs, replyAs, takeAs}
 
 module _ (rs : List Row) where
   unit-now : (by : Carrier) (u : List ℕ) → unitBy judged rs by u ≡ judgedUnit rs by u

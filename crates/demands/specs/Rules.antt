@@ -1,36 +1,31 @@
--- The rules of a release, for what going back means (document 02: "Going back is also a release"): each order that Q-1 or Q-2 moved, over the rules z of a release, and each answer over
--- what the order says. At `in15` they are this release's, by computation (`this-release`), at `in13` and `in14` those of releases 1.3 and 1.4.
+-- The rules of a release, for what going back means (document 02: "Going back is also a release"): each order that Q-1 or Q-2 moved, over the rules z of a release. At `in15` it
+-- is this release's, by computation (`this-release`), at `in13` and `in14` that of releases 1.3 and 1.4; what is answered, written and stored is each crate's own definition over what its order says.
 -- Assumes nothing.
 use Prim.Native.Nat.{ℕ, suc, _+_}
 use mathlib.Core.Bool.{Bool, true, cond, _&&_}
 use mathlib.Core.List.{List, [], _∷_, _++_}
 use lib.Dec.{eqb, leb}
 use lib.ListN.{length, getD, drop}
-use Rattle.exchange.specs.declared.Begun.{Begun}
 use Rattle.exchange.specs.declared.Draft.{Draft}
 use Rattle.exchange.specs.declared.Exchanges.{Exchanges}
 use Rattle.exchange.specs.declared.Replied.{Replied}
-use Rattle.exchange.specs.Begins.{headed, modeOf, openingTests, unbegun}
-use Rattle.exchange.specs.Table.{beginTests, found, entered}
+use Rattle.exchange.specs.Begins.{headed, openingTests}
+use Rattle.exchange.specs.Table.{beginTests, found}
 use Rattle.fields.specs.declared.Fields.{Fields}
 use Rattle.frame.specs.Frame.{unitLength, frameTests}
 use Rattle.kinds.specs.declared.Row.{Row}
 use Rattle.kinds.specs.Table.{NONE, descriptionSize}
 use Rattle.label.specs.declared.Label.{Label}
 use Rattle.label.specs.declared.Judgement.{Judgement}
-use Rattle.label.specs.Times.{labelOf, judged, judgedIn13, allowed, SHOWN_NOTHING}
-use Rattle.octets.specs.Parts.{part, putAt}
+use Rattle.label.specs.Times.{labelOf, judged, judgedIn13, allowed}
+use Rattle.octets.specs.Parts.{part}
 use Rattle.octets.specs.Searches.{firstRefused}
-use Rattle.output.specs.Packets.{packetBytes}
-use Rattle.output.specs.Writing.{roomTests}
+use Rattle.output.specs.Writing.{roomTests, writtenAs}
 use Rattle.packet.specs.declared.Header.{Header}
-use Rattle.packet.specs.declared.Opened.{Opened}
 use Rattle.packet.specs.Frames.{commandOf, unitOf}
-use Rattle.packet.specs.Headers.{headerOf, noHeader, showing}
-use Rattle.reply.specs.declared.Answer.{Answer}
+use Rattle.packet.specs.Headers.{headerOf}
 use Rattle.reply.specs.declared.Due.{Due}
-use Rattle.reply.specs.declared.Due.the-variants.{Nothing}
-use Rattle.reply.specs.Replies.{toGood, toRefused, isDue, replyBytes}
+use Rattle.reply.specs.Replies.{dueAs, isDue}
 use Rattle.taking.specs.declared.Role.the-variants.{Other}
 use Rattle.taking.specs.Takes.{roleIn, takenAs}
 use Rattle.unit.specs.declared.Carrier.{Carrier}
@@ -121,53 +116,24 @@ objectBy j rs u k f d =
     ∷ []))
     good
 
--- what is read of a packet of which the judge says v, and where its unit stands
-abbrev pub readAs : List ℕ → Verdict → Opened
-readAs p v = cond (isGood v) (showing v (headerOf p) (unitLength p)) (record { verdict = v; header = noHeader; shown = SHOWN_NOTHING; length = 0 })
-
+-- where the unit of a packet stands of which the judge says v
 abbrev pub placeAs : List ℕ → Verdict → Part
 placeAs p v = partBy v 27 (27 + unitLength p)
 
--- what is written where the packet writer says v
-abbrev pub writtenAs : List ℕ → Header → ℕ → Verdict → List ℕ
-writtenAs out h l v = cond (isGood v) (putAt out 0 (packetBytes h (part out 27 (27 + l)))) out
-
--- what is begun where the call says v, and what is written where the packet writer then says w
-abbrev pub begunAs : Exchanges → ℕ → Draft → ℕ → Verdict → Begun
-begunAs x c d l v =
-    cond (isGood v)
-    (record {
-      verdict = v;
-      place = found x c .place;
-      length = 30 + l;
-      serial = found x c .serial;
-      state = entered x c (found x c .place) (found x c .serial) (modeOf (d .command));
-    })
-    (unbegun x v)
-
+-- what is written where a beginning says v and the packet writer w
 abbrev pub begunOutputAs : Exchanges → ℕ → List ℕ → Draft → ℕ → Verdict → Verdict → List ℕ
 begunOutputAs x c out d l v w = cond (isGood v) (writtenAs out (headed x c d (found x c .serial)) l w) out
 
--- what is due to a packet whose content is judged v
-abbrev pub dueAs : List ℕ → Verdict → Due
-dueAs p v = cond (isGood v) (toGood (commandOf p)) (toRefused (commandOf p))
-
+-- what is due to a packet, and the order of a reply where d is due, b being whether its label may stand
 abbrev pub dueBy : Rules → List Row → List ℕ → Due
 dueBy z rs p = dueAs p (contentBy z rs p)
 
--- the order of a reply where d is due, b being whether its label may stand, its answer, and what is written
 abbrev pub replyAs : List ℕ → List ℕ → Bool → Due → Verdict
 replyAs p out b d =
     inOrder (frameTests 1024 p) (inOrder (cond (isDue d) ((b or-else TIME) ∷ (leb 30 (length out) or-else ROOM) ∷ []) []) good)
 
 abbrev pub replyBy : Rules → List Row → List ℕ → Label → List ℕ → Verdict
 replyBy z rs p t out = replyAs p out (allowed (z .labels t)) (dueBy z rs p)
-
-abbrev pub answerAs : Verdict → Due → Answer
-answerAs v d = record { verdict = v; due = cond (isGood v) d Nothing }
-
-abbrev pub writtenReplyAs : List ℕ → Label → List ℕ → Verdict → Due → List ℕ
-writtenReplyAs p t out v d = cond (isGood v && isDue d) (putAt out 0 (replyBytes p t d)) out
 
 -- what a packet does to the exchange table, b being whether its frame is good, v what its content and w what all of it is judged to be
 abbrev pub takeAs : Exchanges → List ℕ → Bool → Verdict → Verdict → Replied

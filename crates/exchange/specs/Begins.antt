@@ -45,10 +45,9 @@ begunVerdict rs x c out d l = inOrder (beginTests x c) (draftVerdict rs x c out 
 abbrev pub unbegun : Exchanges → Verdict → Begun
 unbegun x v = record { verdict = v; place = 0; length = 0; serial = 0; state = x }
 
--- "and only then opens the place": the place and serial that were found, the packet's 30+L bytes, and the table with the exchange entered
-unfoldable pub begun : List Row → Exchanges → ℕ → List ℕ → Draft → ℕ → Begun
-begun rs x c out d l =
-    let v = begunVerdict rs x c out d l in
+-- "and only then opens the place": the place and serial that were found, the packet's 30+L bytes, and the table with the exchange entered, where the call says v
+abbrev pub begunAs : Exchanges → ℕ → Draft → ℕ → Verdict → Begun
+begunAs x c d l v =
     cond (isGood v)
     (record {
       verdict = v;
@@ -58,6 +57,9 @@ begun rs x c out d l =
       state = entered x c (found x c .place) (found x c .serial) (modeOf (d .command));
     })
     (unbegun x v)
+
+unfoldable pub begun : List Row → Exchanges → ℕ → List ℕ → Draft → ℕ → Begun
+begun rs x c out d l = begunAs x c d l (begunVerdict rs x c out d l)
 
 -- the output: the packet around the unit that stands in it, and where anything is refused as it came
 unfoldable pub begunOutput : List Row → Exchanges → ℕ → List ℕ → Draft → ℕ → List ℕ

@@ -26,6 +26,9 @@ fieldTests h = (isCommand (h .command) or-else COMMAND) ∷ (allowed (judged (h 
 unfoldable pub packetVerdict : List Row → List ℕ → Header → ℕ → Verdict
 packetVerdict rs out h l = inOrder (roomTests out l 30) (inOrder (fieldTests h) (judgedUnder rs (h .command) (part out 27 (27 + l))))
 
--- "an output in which the unit already stands from byte 28; it writes the other bytes"
+-- "an output in which the unit already stands from byte 28; it writes the other bytes", where the writer says v
+abbrev pub writtenAs : List ℕ → Header → ℕ → Verdict → List ℕ
+writtenAs out h l v = cond (isGood v) (putAt out 0 (packetBytes h (part out 27 (27 + l)))) out
+
 unfoldable pub writtenPacket : List Row → List ℕ → Header → ℕ → List ℕ
-writtenPacket rs out h l = cond (isGood (packetVerdict rs out h l)) (putAt out 0 (packetBytes h (part out 27 (27 + l)))) out
+writtenPacket rs out h l = writtenAs out h l (packetVerdict rs out h l)

@@ -36,8 +36,9 @@ noHeader =
 abbrev pub showing : Verdict → Header → ℕ → Opened
 showing v h l = record { verdict = v; header = h; shown = shownAs (judged (h .label)); length = l }
 
+-- what is read of a packet of which the judge says v
+abbrev pub readAs : List ℕ → Verdict → Opened
+readAs p v = cond (isGood v) (showing v (headerOf p) (unitLength p)) (record { verdict = v; header = noHeader; shown = SHOWN_NOTHING; length = 0 })
+
 unfoldable pub openedPacket : List Row → List ℕ → Opened
-openedPacket rs p =
-    cond (isGood (judgedPacket rs p))
-    (showing (judgedPacket rs p) (headerOf p) (unitLength p))
-    (record { verdict = judgedPacket rs p; header = noHeader; shown = SHOWN_NOTHING; length = 0 })
+openedPacket rs p = readAs p (judgedPacket rs p)

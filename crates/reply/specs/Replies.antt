@@ -29,9 +29,12 @@ toGood c = cond (eqb c 1 || eqb c 2) Confirm Nothing
 abbrev pub toRefused : ℕ → Due
 toRefused c = cond (eqb c 3 || eqb c 5 || eqb c 6) Nothing Deny
 
--- what is due to a packet whose frame is good
+-- what is due to a packet whose frame is good and of whose content the judge says v
+abbrev pub dueAs : List ℕ → Verdict → Due
+dueAs p v = cond (isGood v) (toGood (commandOf p)) (toRefused (commandOf p))
+
 unfoldable pub dueTo : List Row → List ℕ → Due
-dueTo rs p = cond (isGood (judgedContent rs p)) (toGood (commandOf p)) (toRefused (commandOf p))
+dueTo rs p = dueAs p (judgedContent rs p)
 
 -- "Commands .. 3 confirm .. 6 deny", 0 where no reply is due
 abbrev pub commandFor : Due → ℕ
@@ -64,13 +67,16 @@ replyTests d t out = cond (isDue d) (dueTests t out) []
 unfoldable pub replyVerdict : List Row → List ℕ → Label → List ℕ → Verdict
 replyVerdict rs p t out = inOrder (frameTests 1024 p) (inOrder (replyTests (dueTo rs p) t out) good)
 
+-- what is answered where the verdict is v and d is due
+abbrev pub answerAs : Verdict → Due → Answer
+answerAs v d = record { verdict = v; due = cond (isGood v) d Nothing }
+
 unfoldable pub answered : List Row → List ℕ → Label → List ℕ → Answer
-answered rs p t out =
-    record {
-      verdict = replyVerdict rs p t out;
-      due = cond (isGood (replyVerdict rs p t out)) (dueTo rs p) Nothing;
-    }
+answered rs p t out = answerAs (replyVerdict rs p t out) (dueTo rs p)
 
 -- the reply at the front of the output, where one is due and not refused
+abbrev pub writtenReplyAs : List ℕ → Label → List ℕ → Verdict → Due → List ℕ
+writtenReplyAs p t out v d = cond (isGood v && isDue d) (putAt out 0 (replyBytes p t d)) out
+
 unfoldable pub writtenReply : List Row → List ℕ → Label → List ℕ → List ℕ
-writtenReply rs p t out = cond (isGood (replyVerdict rs p t out) && isDue (dueTo rs p)) (putAt out 0 (replyBytes p t (dueTo rs p))) out
+writtenReply rs p t out = writtenReplyAs p t out (replyVerdict rs p t out) (dueTo rs p)
