@@ -74,6 +74,13 @@ static void bench_judge(void)
     judge("judge_unit: 990 bytes, 26 of type 7", make_unit(unit, 7, 26, 38));
     judge("judge_unit: 258 bytes, type 26", text_unit(255));
     judge("judge_unit: 8 bytes, type 90", make_unit(unit, 90, 1, 6));
+    judge("judge_unit: 8 bytes, type 21, SHORT", make_unit(unit, 21, 1, 7) - 1);
+    judge("judge_unit: 505 bytes, 63 of type 24, SHORT", make_unit(unit, 24, 63, 8) - 1);
+    judge("judge_unit: 1,017 bytes, 127 of type 24, SHORT", make_unit(unit, 24, 127, 8) - 1);
+    judge("judge_unit: 1,021 bytes, 102 of type 1, SHORT", make_unit(unit, 1, 102, 10) - 1);
+    judge("judge_unit: 257 bytes, type 26, SHORT", text_unit(255) - 1);
+    judge("judge_unit: 1,019 bytes, 127 of type 24, LONG", make_unit(unit, 24, 127, 8) + 1);
+    judge("judge_unit: 1,023 bytes, 102 of type 1, LONG", make_unit(unit, 1, 102, 10) + 1);
     judge_under("judge_unit_under: 9 bytes, type 21", make_unit(unit, 21, 1, 7), TRAWNOSZ_COMMAND_SEND);
     judge_under("judge_unit_under: 1,022 bytes, 102 of type 1", make_unit(unit, 1, 102, 10), TRAWNOSZ_COMMAND_ANSWER);
     judge_under("judge_unit_under: 1 byte, a confirm's", 1, TRAWNOSZ_COMMAND_CONFIRM);

@@ -6,7 +6,8 @@
 
 static const char *const names[] = {
     "OK",   "STATE", "ROOM", "CUT",    "START", "LENGTH", "END",     "SUM",  "VERSION", "COMMAND", "TIME",   "UNIT", "TYPE",
-    "COUNT", "SIZE",  "NUMBER", "KIND", "TEXT",  "SETTING", "FULL", "STRAY", "MANY",    "ORDER",   "ORPHAN", "TAIL", "UNLISTED",
+    "COUNT", "SHORT", "NUMBER", "KIND", "TEXT",  "SETTING", "FULL", "STRAY", "MANY",    "ORDER",   "ORPHAN", "TAIL", "UNLISTED",
+    [TRAWNOSZ_REFUSED_LONG] = "LONG",
 };
 
 static int put(const char *line, int length)

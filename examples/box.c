@@ -5,6 +5,7 @@
  * forgotten. In box.hex the second centre is silent: what was sent to it fails, and the first's exchanges go on as ever.
  * A panel without a clock has six zeros for a time: the box says so, sends them on as they came and never takes them for its
  * own clock. A centre's confirm may carry bytes: they end its exchange as an empty one does, and the box shows them as they are.
+ * Of a report that is cut the box tells the object at which it ends, of one with bytes behind it LONG; both are denied.
  */
 #include <stdio.h>
 #include <string.h>
@@ -39,6 +40,14 @@ static void print_name(uint8_t number)
     uint8_t name[TRAWNOSZ_LONGEST_NAME];
     trawnosz_found found = trawnosz_name(number, name, sizeof name);
     printf("%.*s", (int)found.to, (const char *)name);
+}
+
+/* Of a unit that is cut, the first object that is not whole is told too, so that one can look for it in the panel. */
+static void print_verdict(trawnosz_verdict verdict)
+{
+    print_name(verdict.number);
+    if (verdict.number == TRAWNOSZ_REFUSED_SHORT)
+        printf(" at object %zu", verdict.place);
 }
 
 /* A line on an exchange names its centre first, since both centres may have one serial open. */
@@ -96,7 +105,7 @@ static void forward(box *b, uint8_t centre, const uint8_t *unit, size_t length)
     if (begun.verdict.number) {
         print_centre(centre);
         fputs("not sent: ", stdout);
-        print_name(begun.verdict.number);
+        print_verdict(begun.verdict);
         putchar('\n');
         return;
     }
@@ -208,7 +217,7 @@ static void on_packet(box *b, const uint8_t *packet, const trawnosz_served *serv
     uint8_t out[TRAWNOSZ_REPLY_BYTES];
     trawnosz_opened opened = trawnosz_read_packet(packet, served->length);
     printf("%zu skipped, packet of %zu bytes, command %u: ", served->skipped, served->length, packet[26]);
-    print_name(opened.verdict.number);
+    print_verdict(opened.verdict);
     print_no_time(opened.shown);
     putchar('\n');
     trawnosz_answer due = trawnosz_answer_to(packet, served->length, b->clock, out, sizeof out);

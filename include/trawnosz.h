@@ -26,7 +26,7 @@ extern "C" {
 #endif
 
 /* The release that this header is of; trawnosz_release tells that of the archive. */
-#define TRAWNOSZ_RELEASE "1.5"
+#define TRAWNOSZ_RELEASE "1.6"
 
 /* Sizes and limits. */
 enum {
@@ -61,7 +61,7 @@ enum {
     TRAWNOSZ_REFUSED_UNIT = 11,    /* a unit under 2 bytes, under commands 1, 2, 4 and 5 or alone */
     TRAWNOSZ_REFUSED_TYPE = 12,    /* not in the table, or not carried by the command */
     TRAWNOSZ_REFUSED_COUNT = 13,   /* n is 0 or above its limit */
-    TRAWNOSZ_REFUSED_SIZE = 14,    /* unit's size is not 2 plus its objects */
+    TRAWNOSZ_REFUSED_SHORT = 14,   /* a unit ends before its last object does; place the first object not whole, from 0 */
     TRAWNOSZ_REFUSED_NUMBER = 15,  /* object number not below n */
     TRAWNOSZ_REFUSED_KIND = 16,    /* fields of another type than the unit; type 26 to the object writer */
     TRAWNOSZ_REFUSED_TEXT = 17,    /* description of the wrong length */
@@ -73,6 +73,7 @@ enum {
     TRAWNOSZ_REFUSED_ORPHAN = 23,  /* a part's system is not listed; place as for ORDER */
     TRAWNOSZ_REFUSED_TAIL = 24,    /* bytes after the table */
     TRAWNOSZ_REFUSED_UNLISTED = 25, /* no such part */
+    TRAWNOSZ_REFUSED_LONG = 28,    /* bytes follow a unit's last object */
     TRAWNOSZ_REFUSED_CENTRE = 30   /* a centre other than the two */
 };
 
@@ -349,10 +350,11 @@ trawnosz_served trawnosz_receive(uint8_t hold[1054], size_t held, size_t count, 
  *
  * A confirm's or deny's bytes are no unit: under commands 3 and 6 any 0 to 1,024 bytes stand where other packets have their
  * unit. They are found, read with L and written as a unit is, but kept as bytes and not judged as a unit: UNIT, TYPE, COUNT,
- * SIZE and TIME of an object, below, are for the other commands. The calls on objects, and the judge of a unit alone, are told
- * no command: they refuse or read such bytes by their own rules, and what they then tell is not what the sender meant. */
+ * SHORT, LONG and TIME of an object, below, are for the other commands. The calls on objects, and the judge of a unit alone,
+ * are told no command: they refuse or read such bytes by their own rules, and what they then tell is not what the sender
+ * meant. */
 
-/* The judge of a packet: CUT, START, LENGTH, CUT, END, SUM, VERSION, COMMAND, TIME, UNIT, TYPE, COUNT, SIZE, TIME. */
+/* The judge of a packet: CUT, START, LENGTH, CUT, END, SUM, VERSION, COMMAND, TIME, UNIT, TYPE, COUNT, SHORT, LONG, TIME. */
 trawnosz_verdict trawnosz_judge_packet(const uint8_t *packet, size_t packet_length);
 
 /* A packet's fields and L; refuses as its judge. */
@@ -362,8 +364,8 @@ trawnosz_opened trawnosz_read_packet(const uint8_t *packet, size_t packet_length
 trawnosz_found trawnosz_find_unit(const uint8_t *packet, size_t packet_length);
 
 /* Writes a packet around the unit, under 3 and 6 any bytes, of `length` bytes that already stands from out[27] on: the 27
- * bytes before it and the 3 behind it. Refuses LENGTH, ROOM (under 30 + length), COMMAND, TIME, UNIT, TYPE, COUNT, SIZE,
- * TIME. */
+ * bytes before it and the 3 behind it. Refuses LENGTH, ROOM (under 30 + length), COMMAND, TIME, UNIT, TYPE, COUNT, SHORT,
+ * LONG, TIME. */
 trawnosz_verdict trawnosz_write_packet(uint8_t *out, size_t out_length, trawnosz_header header, size_t length);
 
 /* Writes an object into the unit of `length` bytes that stands from out[27] on. Refuses LENGTH, ROOM (under 27 + length),
@@ -381,13 +383,15 @@ trawnosz_answer trawnosz_answer_to(const uint8_t *packet, size_t packet_length, 
                                    size_t out_length);
 
 /* ---- Units and objects; objects are numbered from 0. Each call judges the whole unit, so that reading n objects one by one
- * judges it n times. ---- */
+ * judges it n times. A unit that ends before its last object does is SHORT, and its place the number of the first object that
+ * is not whole, be it cut or wholly absent: the objects before it are whole, though nothing was yet said of their labels. One
+ * with bytes behind its last object is LONG. ---- */
 
-/* The judge of a unit alone: UNIT, TYPE, COUNT, SIZE, TIME. */
+/* The judge of a unit alone: UNIT, TYPE, COUNT, SHORT, LONG, TIME. */
 trawnosz_verdict trawnosz_judge_unit(const uint8_t *unit, size_t unit_length);
 
-/* The judge of a unit under a command: COMMAND, then UNIT, TYPE, COUNT, SIZE, TIME; under 3 and 6, where any bytes are taken,
- * COMMAND and then only LENGTH (over 1,024). */
+/* The judge of a unit under a command: COMMAND, then UNIT, TYPE, COUNT, SHORT, LONG, TIME; under 3 and 6, where any bytes are
+ * taken, COMMAND and then only LENGTH (over 1,024). */
 trawnosz_verdict trawnosz_judge_unit_under(const uint8_t *unit, size_t unit_length, uint8_t command);
 
 /* The length of a unit of n objects of a type: 2 and n times the object's size. 0 where there is none (a type that is not in
@@ -406,7 +410,7 @@ trawnosz_typed trawnosz_read_object(const uint8_t *unit, size_t unit_length, siz
 trawnosz_found trawnosz_find_description(const uint8_t *unit, size_t unit_length, size_t number);
 
 /* Writes one object of a unit whose type and n already stand, and no other byte; the description has 31 bytes for types 2
- * and 7 and none for others. Refuses UNIT, TYPE, COUNT, SIZE, NUMBER, KIND, TEXT, TIME of the new label. */
+ * and 7 and none for others. Refuses UNIT, TYPE, COUNT, SHORT, LONG, NUMBER, KIND, TEXT, TIME of the new label. */
 trawnosz_verdict trawnosz_write_object(uint8_t *unit, size_t unit_length, size_t number, trawnosz_fields fields,
                                        const uint8_t *description, size_t description_length);
 
@@ -433,16 +437,17 @@ trawnosz_made trawnosz_exchanges_fresh(uint8_t timeout, uint8_t resends, trawnos
  * serial, from the centre's next one upward, that is not open within the centre; only then is the lowest free place of its
  * eight opened under it. Every member of the draft is written; commands 1 and 2 open a send, 4 a request. Refuses STATE,
  * CENTRE (a centre other than 0 and 1), FULL (the centre's eight are open), then as trawnosz_write_packet: LENGTH, ROOM (under
- * 30 + length), COMMAND (here for all but 1, 2 and 4), TIME, UNIT, TYPE, COUNT, SIZE, TIME. Refused, no place is open that was
- * not before and no serial is used up: the centre's next call that is good gives the serial that this one would have given. */
+ * 30 + length), COMMAND (here for all but 1, 2 and 4), TIME, UNIT, TYPE, COUNT, SHORT, LONG, TIME. Refused, no place is open
+ * that was not before and no serial is used up: the centre's next call that is good gives the serial that this one would have
+ * given. */
 trawnosz_begun trawnosz_begin_and_write(trawnosz_exchanges table, uint8_t centre, uint8_t *out, size_t out_length,
                                         trawnosz_draft draft, size_t length);
 
 /* The step of the exchange that the reply fits, with its place and outcome: `source` is the source address of the reply's
  * packet, and only an exchange of the centre that has this address fits; a confirm fits a send, an answer a request, a deny
- * either, a bad answer (command 5, refused at VERSION or later) a request. Refuse STATE, STRAY (also where neither centre has
- * the address). Of a refused answer trawnosz_read_packet gives zeros: trawnosz_take_packet, below, takes serial and source
- * from the bytes. */
+ * either, a bad answer (command 5, refused at VERSION or later in the order of a packet's judge, so LONG too, not by the
+ * number) a request. Refuse STATE, STRAY (also where neither centre has the address). Of a refused answer trawnosz_read_packet
+ * gives zeros: trawnosz_take_packet, below, takes serial and source from the bytes. */
 trawnosz_replied trawnosz_reply_confirm(trawnosz_exchanges table, trawnosz_address source, uint16_t serial);
 trawnosz_replied trawnosz_reply_answer(trawnosz_exchanges table, trawnosz_address source, uint16_t serial);
 trawnosz_replied trawnosz_reply_deny(trawnosz_exchanges table, trawnosz_address source, uint16_t serial);

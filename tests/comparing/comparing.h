@@ -170,6 +170,10 @@ void make_object(struct trial *t, struct ind_object *object, uint8_t kind);
 void make_fields(struct trial *t, struct ind_packet *fields);
 size_t choose_room(struct trial *t, size_t needed, size_t all);
 
+void spoil_unit_label(struct trial *t, uint8_t *unit, size_t size);
+size_t choose_cut(struct trial *t, const uint8_t *unit, size_t size);
+size_t first_not_whole(const uint8_t *unit, size_t cut);
+void pad_unit(struct trial *t, uint8_t *unit, size_t *size);
 void spoil_unit(struct trial *t, uint8_t *unit, size_t *size);
 void spoil_packet(struct trial *t, uint8_t *packet, size_t *size);
 
@@ -235,12 +239,15 @@ extern const char example_b_unit[];
 size_t from_hex(uint8_t *bytes, const char *hex);
 void expect(struct trial *t, bool holds);
 void expect_verdict(struct trial *t, struct ind_verdict verdict, enum ind_refusal refusal, size_t place);
+size_t with_unit(uint8_t *packet, uint8_t command, const uint8_t *unit, size_t size);
+struct ind_book with_open(struct trial *t, uint8_t command);
 
 /* ---- kind_*.c: the kinds of input ---- */
 
 void try_examples(struct trial *t);
 void try_label_examples(struct trial *t);
 void try_confirm_examples(struct trial *t);
+void try_size_examples(struct trial *t);
 void try_exchange_examples(struct trial *t);
 void try_streams(struct trial *t);
 void try_noise(struct trial *t);
@@ -250,6 +257,7 @@ void try_packet_lengths(struct trial *t);
 void try_damage(struct trial *t);
 void try_units(struct trial *t);
 void try_unit_lengths(struct trial *t);
+void try_unit_ends(struct trial *t);
 void try_object_writer(struct trial *t);
 void try_packet_object_writer(struct trial *t);
 void try_text_writers(struct trial *t);

@@ -19,7 +19,7 @@ static void add_refused(struct trial *t, const struct made_type *type, size_t n,
 }
 
 /* One packet for each refusal that the judge of a packet in a right frame gives; of a label by a day of 32, which is TIME also
- * beside zeros. */
+ * beside zeros, of SHORT and LONG by a type whose object is longer or shorter. */
 static void add_each_refusal(struct trial *t)
 {
     const struct made_type *clock = made_type_of(28);
@@ -31,6 +31,7 @@ static void add_each_refusal(struct trial *t)
     add_refused(t, clock, 1, 0, 0, 1);
     add_refused(t, clock, 2, 0, 0, 2);
     add_refused(t, clock, 1, 27, 1, 2);
+    add_refused(t, clock, 1, 27, 25, 2);
 }
 
 /* A confirm or a deny that carries bytes of one kind, good or, by its main version, refused. */

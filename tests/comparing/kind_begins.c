@@ -6,13 +6,13 @@
 
 /* What may be wrong, in the order in which it is refused, and by what. */
 enum fault {
-    BAD_TABLE, NO_CENTRE, NO_PLACE, TOO_LONG, NO_ROOM, BAD_COMMAND, BAD_HEAD_LABEL, NO_UNIT, BAD_TYPE, BAD_COUNT, BAD_SIZE,
-    BAD_OBJECT_LABEL, NO_FAULT
+    BAD_TABLE, NO_CENTRE, NO_PLACE, TOO_LONG, NO_ROOM, BAD_COMMAND, BAD_HEAD_LABEL, NO_UNIT, BAD_TYPE, BAD_COUNT, CUT_UNIT,
+    PADDED_UNIT, BAD_OBJECT_LABEL, NO_FAULT
 };
 
 static const enum ind_refusal refusals[] = {
-    IND_STATE, IND_CENTRE, IND_FULL, IND_LENGTH, IND_ROOM, IND_COMMAND, IND_TIME, IND_UNIT, IND_TYPE, IND_COUNT, IND_SIZE,
-    IND_TIME, IND_GOOD
+    IND_STATE, IND_CENTRE, IND_FULL, IND_LENGTH, IND_ROOM, IND_COMMAND, IND_TIME, IND_UNIT, IND_TYPE, IND_COUNT, IND_SHORT,
+    IND_LONG, IND_TIME, IND_GOOD
 };
 
 /* Calls on one table, each on the table as it was, with 0 to 8 places open for one centre and for the other in turn. */
@@ -85,8 +85,10 @@ static void set_size_faults(struct trial *t, struct made_begin *made, unsigned f
         *length = long_ones[below(t, 9)];
     else if (has(faults, NO_UNIT))
         *length = below(t, 2);
-    else if (has(faults, BAD_SIZE))
-        *length = chance(t, 50) ? *length + 1 : *length - 1;
+    else if (has(faults, CUT_UNIT))
+        *length = choose_cut(t, made->out + 27, *length);
+    else if (has(faults, PADDED_UNIT))
+        pad_unit(t, made->out + 27, length);
     bool any = *length > 2001;
     if (has(faults, NO_ROOM))
         made->room = any || chance(t, 50) ? below(t, 30) : chance(t, 50) ? 29 + *length : below(t, 30 + *length);
@@ -111,6 +113,8 @@ static size_t make_faulty(struct trial *t, struct made_begin *made, size_t centr
         made->draft.command = others[below(t, sizeof others)];
     if (has(faults, BAD_HEAD_LABEL))
         make_bad_label(t, made->draft.label);
+    if (first == CUT_UNIT)
+        return first_not_whole(made->out + 27, made->draft.unit_size);
     return first == BAD_OBJECT_LABEL ? place : 0;
 }
 

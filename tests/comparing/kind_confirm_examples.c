@@ -11,18 +11,6 @@ static const uint8_t carriers[] = {IND_COMMAND_CONFIRM, IND_COMMAND_DENY};
 static const uint8_t others[] = {IND_COMMAND_CONTROL, IND_COMMAND_SEND, IND_COMMAND_REQUEST, IND_COMMAND_ANSWER};
 static const uint8_t label[6] = {0, 30, 8, 15, 6, 24}, bad_label[6] = {60, 0, 0, 1, 1, 0};
 
-/* Example A under a command, with bytes for its unit and the L and the sum that it then must have. */
-static size_t with_unit(uint8_t *packet, uint8_t command, const uint8_t *unit, size_t size)
-{
-    from_hex(packet, example_a);
-    packet[24] = (uint8_t)size;
-    packet[25] = (uint8_t)(size >> 8);
-    packet[26] = command;
-    memcpy(packet + 27, unit, size);
-    seal(packet, size);
-    return 30 + size;
-}
-
 /* "a reply that is not due needs neither" a label nor room. */
 static void expect_no_reply(struct trial *t, const uint8_t *packet, size_t size)
 {
@@ -103,8 +91,8 @@ static void try_units_carried(struct trial *t)
         size_t place;
     } units[] = {
         {"", IND_UNIT, 0},         {"FF", IND_UNIT, 0},       {"15", IND_UNIT, 0},         {"FFFF", IND_TYPE, 0},
-        {"4040", IND_TYPE, 0},     {"2323", IND_TYPE, 0},     {"1501", IND_SIZE, 0},       {"1C00", IND_COUNT, 0},
-        {"1A01", IND_SIZE, 0},     {"1A0100", IND_GOOD, 0},   {"1A01024142", IND_GOOD, 0}, {example_b_unit, IND_GOOD, 0},
+        {"4040", IND_TYPE, 0},     {"2323", IND_TYPE, 0},     {"1501", IND_SHORT, 0},      {"1C00", IND_COUNT, 0},
+        {"1A01", IND_SHORT, 0},    {"1A0100", IND_GOOD, 0},   {"1A01024142", IND_GOOD, 0}, {example_b_unit, IND_GOOD, 0},
         {"3D010102", IND_GOOD, 0}, {example_a, IND_TYPE, 0},  {"5A01001E080F0618", IND_GOOD, 0},
         {"5A013C0000010100", IND_TIME, 1},
     };
@@ -152,8 +140,8 @@ static void try_longest(struct trial *t)
         expect_verdict(t, both_judge_unit_under(t, unit, 1025, others[i]), IND_TYPE, 0);
     unit[0] = IND_TRANSMITTER_OPERATION;
     unit[1] = 127;
-    expect_verdict(t, both_judge_unit_under(t, unit, 1025, IND_COMMAND_SEND), IND_SIZE, 0);
-    expect_verdict(t, both_judge_unit(t, unit, 1025), IND_SIZE, 0);
+    expect_verdict(t, both_judge_unit_under(t, unit, 1025, IND_COMMAND_SEND), IND_LONG, 0);
+    expect_verdict(t, both_judge_unit(t, unit, 1025), IND_LONG, 0);
     expect_verdict(t, both_judge_unit_under(t, unit, 1025, IND_COMMAND_DENY), IND_LENGTH, 0);
 }
 
@@ -211,22 +199,6 @@ static void try_own_reply(struct trial *t)
     expect(t, out[24] == 0 && out[25] == 0 && out[29] == '#' && out[30] == 0xEE);
     struct ind_packet reply = both_read_packet(t, out, IND_FRAME_BYTES);
     expect(t, !reply.verdict.refusal && reply.serial == 6 && reply.unit_size == 0);
-}
-
-/* A table in which a send, or a request, of example A's serial is open for the centre that example A comes from. */
-static struct ind_book with_open(struct trial *t, uint8_t command)
-{
-    static const uint8_t first[6], second[6] = {1};
-    struct ind_book book;
-    uint8_t out[64] = {0};
-    bool request = command == IND_COMMAND_REQUEST;
-    struct ind_draft draft = {.label = {0, 30, 8, 15, 6, 24}, .command = command};
-    draft.unit_size = from_hex(out + 27, request ? "3D010102" : example_b_unit);
-    expect_verdict(t, both_exchanges_fresh(t, &book, 10, 1, first, second), IND_GOOD, 0);
-    book.centre[1].next = 5;
-    struct ind_begun begun = both_begin_and_write(t, &book, 1, out, sizeof out, &draft);
-    expect(t, !begun.verdict.refusal && begun.place == 8 && begun.serial == 5);
-    return book;
 }
 
 /* A packet is taken with what it carries and, of the same command, as an empty one: to the table both are the same. It stays,

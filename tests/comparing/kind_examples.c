@@ -1,5 +1,6 @@
 /* The documents' own examples, with the answers that they state; those of request Q-1's labels stand in kind_label_examples.c,
- * those of request Q-2's confirms in kind_confirm_examples.c, those of exchanges in kind_exchange_examples.c. */
+ * those of request Q-2's confirms in kind_confirm_examples.c, those of request Q-4's sizes in kind_size_examples.c, those of
+ * exchanges in kind_exchange_examples.c. */
 #include "comparing.h"
 
 #include <string.h>
@@ -30,6 +31,34 @@ void expect(struct trial *t, bool holds)
 void expect_verdict(struct trial *t, struct ind_verdict verdict, enum ind_refusal refusal, size_t place)
 {
     expect(t, verdict.refusal == refusal && verdict.place == place);
+}
+
+/* Example A under a command, with bytes for its unit and the L and the sum that it then must have. */
+size_t with_unit(uint8_t *packet, uint8_t command, const uint8_t *unit, size_t size)
+{
+    from_hex(packet, example_a);
+    packet[24] = (uint8_t)size;
+    packet[25] = (uint8_t)(size >> 8);
+    packet[26] = command;
+    memcpy(packet + 27, unit, size);
+    seal(packet, size);
+    return 30 + size;
+}
+
+/* A table in which a send, or a request, of example A's serial is open for the centre that example A comes from. */
+struct ind_book with_open(struct trial *t, uint8_t command)
+{
+    static const uint8_t first[6], second[6] = {1};
+    struct ind_book book;
+    uint8_t out[64] = {0};
+    bool request = command == IND_COMMAND_REQUEST;
+    struct ind_draft draft = {.label = {0, 30, 8, 15, 6, 24}, .command = command};
+    draft.unit_size = from_hex(out + 27, request ? "3D010102" : example_b_unit);
+    expect_verdict(t, both_exchanges_fresh(t, &book, 10, 1, first, second), IND_GOOD, 0);
+    book.centre[1].next = 5;
+    struct ind_begun begun = both_begin_and_write(t, &book, 1, out, sizeof out, &draft);
+    expect(t, !begun.verdict.refusal && begun.place == 8 && begun.serial == 5);
+    return book;
 }
 
 /* A packet with one byte changed, judged with the sum as it stands or made right again. */
@@ -69,9 +98,9 @@ static void try_unit_examples(struct trial *t)
         enum ind_refusal refusal;
         size_t place;
     } units[] = {
-        {"1880", IND_COUNT, 0}, {"187F", IND_SIZE, 0}, {"3D00", IND_COUNT, 0}, {"5A013C0000010100", IND_TIME, 1},
-        {"1A", IND_UNIT, 0}, {"1A01", IND_SIZE, 0}, {"1A00", IND_COUNT, 0}, {"1A020000", IND_COUNT, 0},
-        {"1A0100", IND_GOOD, 0}, {"1A010000", IND_SIZE, 0}, {"1A010241", IND_SIZE, 0}, {"3D010102", IND_GOOD, 0},
+        {"1880", IND_COUNT, 0}, {"187F", IND_SHORT, 0}, {"3D00", IND_COUNT, 0}, {"5A013C0000010100", IND_TIME, 1},
+        {"1A", IND_UNIT, 0}, {"1A01", IND_SHORT, 0}, {"1A00", IND_COUNT, 0}, {"1A020000", IND_COUNT, 0},
+        {"1A0100", IND_GOOD, 0}, {"1A010000", IND_LONG, 0}, {"1A010241", IND_SHORT, 0}, {"3D010102", IND_GOOD, 0},
     };
     for (size_t i = 0; i < sizeof units / sizeof units[0]; i++) {
         uint8_t unit[16];
@@ -167,6 +196,7 @@ void try_examples(struct trial *t)
     try_receiver_examples(t);
     try_label_examples(t);
     try_confirm_examples(t);
+    try_size_examples(t);
     try_exchange_examples(t);
     try_table_examples(t);
     try_reply_examples(t);

@@ -1,4 +1,4 @@
-/* Units alone and under every command, and their objects by number. */
+/* Units alone and under every command, those that end too early or too late among them, and their objects by number. */
 #include "comparing.h"
 
 #include <string.h>
@@ -78,5 +78,37 @@ void try_unit_lengths(struct trial *t)
     unit[0] = 26;
     unit[1] = 1;
     unit[2] = (uint8_t)(size - 3);
+    ask_all(t, unit, size);
+}
+
+/* What a unit is refused by is known where it was made good, its labels aside, and then cut or added to. */
+static void expect_end(struct trial *t, const uint8_t *unit, size_t size, enum ind_refusal refusal, size_t place)
+{
+    struct ind_verdict verdict = both_judge_unit(t, unit, size);
+    if (verdict.refusal != refusal || verdict.place != place)
+        differ(t, "a cut unit is not SHORT at its first object that is not whole, or a padded one not LONG");
+}
+
+static void expect_cut(struct trial *t, const uint8_t *unit, size_t cut)
+{
+    expect_end(t, unit, cut, IND_SHORT, first_not_whole(unit, cut));
+}
+
+/* Every type with every n in turn, half of them with a bad label, which is refused later: cut somewhere, short ones
+ * everywhere, and with bytes behind them. */
+void try_unit_ends(struct trial *t)
+{
+    uint8_t unit[MADE_MOST];
+    const struct made_type *type = &made_types[t->turn % TYPES];
+    size_t size = make_unit(t, unit, type, t->turn / TYPES % type->most + 1);
+    if (chance(t, 50))
+        spoil_unit_label(t, unit, size);
+    for (size_t cut = 2; size <= 100 && cut < size; cut++)
+        expect_cut(t, unit, cut);
+    size_t cut = choose_cut(t, unit, size);
+    expect_cut(t, unit, cut);
+    ask_all(t, unit, cut);
+    pad_unit(t, unit, &size);
+    expect_end(t, unit, size, IND_LONG, 0);
     ask_all(t, unit, size);
 }

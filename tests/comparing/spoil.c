@@ -2,7 +2,7 @@
 #include "comparing.h"
 
 /* Makes the label of one object bad, where the type has labels. */
-static void spoil_unit_label(struct trial *t, uint8_t *unit, size_t size)
+void spoil_unit_label(struct trial *t, uint8_t *unit, size_t size)
 {
     const struct made_type *type = made_type_of(unit[0]);
     if (type && type->label >= 0 && size == 2 + (size_t)unit[1] * type->size) {
@@ -29,10 +29,37 @@ static void make_one_too_many(struct trial *t, uint8_t *unit, size_t *size)
     *size = make_unit(t, unit, type, type->most + 1u);
 }
 
-/* The unit's memory must have room for a type's largest n and one object more. */
+/* Where a unit is cut: a byte before its end, or anywhere behind its second byte, as often as not where an object ends. */
+size_t choose_cut(struct trial *t, const uint8_t *unit, size_t size)
+{
+    const struct made_type *type = made_type_of(unit[0]);
+    if (size < 4 || chance(t, 30))
+        return size - 1;
+    size_t cut = between(t, 2, size - 1);
+    return type && chance(t, 50) ? cut - (cut - 2) % type->size : cut;
+}
+
+/* "SHORT's place is the first object not whole, from 0", of a good unit that is cut; all objects of a type but 26 have one
+ * size, and of 26 there is but one object. */
+size_t first_not_whole(const uint8_t *unit, size_t cut)
+{
+    return unit[0] == 26 ? 0 : (cut - 2) / made_type_of(unit[0])->size;
+}
+
+/* Bytes behind a unit: one, a few, or as many as leave an L that is not too long. */
+void pad_unit(struct trial *t, uint8_t *unit, size_t *size)
+{
+    size_t most = *size < 1024 ? 1024 - *size : 1;
+    size_t few = most < 20 ? most : 20;
+    size_t added = chance(t, 40) ? 1 : between(t, 1, chance(t, 70) ? few : most);
+    fill(t, unit + *size, added);
+    *size += added;
+}
+
+/* The unit's memory must have room for a type's largest n and one object more, and for 1,024 bytes. */
 void spoil_unit(struct trial *t, uint8_t *unit, size_t *size)
 {
-    switch (*size < 2 ? 7 : below(t, 9)) {
+    switch (*size < 2 ? 7 : below(t, 11)) {
     case 0:
     case 1:
         spoil_unit_label(t, unit, *size);
@@ -53,11 +80,11 @@ void spoil_unit(struct trial *t, uint8_t *unit, size_t *size)
         *size = below(t, *size < 4 ? *size + 1 : 4);
         break;
     case 7:
-        unit[*size] = any_byte(t);
-        *size += 1;
+    case 8:
+        pad_unit(t, unit, size);
         break;
     default:
-        *size -= 1;
+        *size = choose_cut(t, unit, *size);
     }
 }
 

@@ -1,5 +1,5 @@
-/* The independent program: the rules of document 01 and of document 02's requests Q-1, Q-2, Q-8, Q-10 and Q-11, written from
- * those papers alone, and from the header where they leave a point open, to compare the library with. */
+/* The independent program: the rules of document 01 and of document 02's requests Q-1, Q-2, Q-4, Q-8, Q-10 and Q-11, written
+ * from those papers alone, and from the header where they leave a point open, to compare the library with. */
 #ifndef INDEPENDENT_H
 #define INDEPENDENT_H
 

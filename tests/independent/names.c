@@ -31,12 +31,13 @@ struct ind_span ind_span_at(size_t start, size_t length)
     return span;
 }
 
+/* NULL for a number below the last one that is no refusal. */
 const char *ind_refusal_name(enum ind_refusal refusal)
 {
     static const char *const names[] = {
         "OK", "STATE", "ROOM", "CUT", "START", "LENGTH", "END", "SUM", "VERSION", "COMMAND", "TIME", "UNIT", "TYPE",
-        "COUNT", "SIZE", "NUMBER", "KIND", "TEXT", "SETTING", "FULL", "STRAY", "MANY", "ORDER", "ORPHAN", "TAIL", "UNLISTED",
-        [IND_CENTRE] = "CENTRE"
+        "COUNT", "SHORT", "NUMBER", "KIND", "TEXT", "SETTING", "FULL", "STRAY", "MANY", "ORDER", "ORPHAN", "TAIL", "UNLISTED",
+        [IND_LONG] = "LONG", [IND_CENTRE] = "CENTRE"
     };
     return names[refusal];
 }
@@ -47,10 +48,11 @@ const char *ind_event_name(enum ind_event event)
     return names[event];
 }
 
-/* The names of our own numbers, and of the refusals, of which the papers that we go by leave out 26 to 29; nothing told is 0,
- * which is good. */
+/* The names of our own numbers, and of the refusals, of which the papers that we go by leave out 26, 27, 29 and 31; nothing
+ * told is 0, which is good. */
 const char *ind_name(uint8_t number)
 {
+    const char *refusal = number <= IND_CENTRE ? ind_refusal_name((enum ind_refusal)number) : NULL;
     switch (number) {
     case IND_TOLD_MORE:
         return "MORE";
@@ -67,7 +69,7 @@ const char *ind_name(uint8_t number)
     case IND_TOLD_FAILED:
         return "FAILED";
     default:
-        return number <= IND_UNLISTED || number == IND_CENTRE ? ind_refusal_name((enum ind_refusal)number) : "";
+        return refusal ? refusal : "";
     }
 }
 

@@ -1,5 +1,5 @@
-/* The documents' numbers, in one table: each as document 01 or, for two centres, request Q-11 of document 02 writes it, and
- * the few that the papers leave to us. */
+/* The documents' numbers, in one table: each as document 01 or, for a unit's end and for two centres, requests Q-4 and Q-11
+ * of document 02 write it, and the few that the papers leave to us. */
 #ifndef NUMBERS_H
 #define NUMBERS_H
 
@@ -20,7 +20,7 @@ enum {
     IND_MOST_PARTS = 1024       /* "parts (at most 1,024; the 38 bytes of a type 7 body)" */
 };
 
-/* "Refusal numbers", and request Q-11's "30 CENTRE"; 0 is none of them. */
+/* "Refusal numbers", with request Q-4's "14 SHORT" and "28 LONG" and Q-11's "30 CENTRE"; 0 is none of them. */
 enum ind_refusal {
     IND_GOOD = 0,
     IND_STATE = 1,
@@ -36,7 +36,7 @@ enum ind_refusal {
     IND_UNIT = 11,
     IND_TYPE = 12,
     IND_COUNT = 13,
-    IND_SIZE = 14,
+    IND_SHORT = 14,
     IND_NUMBER = 15,
     IND_KIND = 16,
     IND_TEXT = 17,
@@ -48,6 +48,7 @@ enum ind_refusal {
     IND_ORPHAN = 23,
     IND_TAIL = 24,
     IND_UNLISTED = 25,
+    IND_LONG = 28,
     IND_CENTRE = 30
 };
 

@@ -25,20 +25,20 @@ use Rattle.verdict.specs.Orders.{inOrder, refusal, good, partBy, partIn}
 use Rattle.verdict.specs.Refusals.{LENGTH, VERSION, UNIT}
 use Rattle.demands.specs.Rules.{in14, timelyBy, packetBy}
 
-abbrev of : Verdict → List ℕ
+abbrev pub of : Verdict → List ℕ
 of v = v .number ∷ v .place ∷ []
 
 -- A under a command, with this main version and this unit and the sum of all that
-abbrev carrying : ℕ → ℕ → List ℕ → List ℕ
+abbrev pub carrying : ℕ → ℕ → List ℕ → List ℕ
 carrying version command u =
     let head = set (putAt (set (take 27 A) 4 version) 24 (bytesOf 2 (length u))) 26 command in
     head ++ (u ++ (total (drop 2 (head ++ u)) % 256 ∷ 35 ∷ 35 ∷ []))
 
 -- a packet's verdict, and the reply to it in an output of 30 bytes, its command and L first
-abbrev packet : List ℕ → List ℕ
+abbrev pub packet : List ℕ → List ℕ
 packet p = of (judgedPacket rows p)
 
-abbrev reply : List ℕ → List ℕ
+abbrev pub reply : List ℕ → List ℕ
 reply p =
     let answer = answered rows p (labelOf (drop 6 A)) (replicate 30 1) in
     let out = writtenReply rows p (labelOf (drop 6 A)) (replicate 30 1) in

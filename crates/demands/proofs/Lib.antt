@@ -2,11 +2,13 @@ pub mod Determined
 pub mod Lent
 pub mod CheckedLabels
 pub mod CheckedConfirms
+pub mod CheckedSizes
 pub mod Checked
 pub mod Demand1
 pub mod Demand2
 pub mod NoTime
 pub mod Confirms
+pub mod Sizes
 pub mod Demand2Exchanges
 pub mod BoxLogs
 pub mod AlwaysEnds
@@ -17,4 +19,5 @@ pub mod Narrowed
 pub mod Release13
 pub mod ThisRelease
 pub mod Release14
+pub mod Release15
 pub mod Exported

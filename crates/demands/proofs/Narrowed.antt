@@ -31,10 +31,10 @@ use Rattle.unit.specs.declared.Carrier.{Carrier}
 use Rattle.unit.specs.declared.Carrier.the-variants.{Any, By}
 use Rattle.unit.specs.Objects.{typeOf, countOf}
 use Rattle.unit.specs.Places.{numberTest}
-use Rattle.unit.specs.Units.{rowOf, shapeTests, isKept, emptyTests, isCommand}
+use Rattle.unit.specs.Units.{rowOf, oneSizeTest, shapeBy, isKept, emptyTests, isCommand}
 use Rattle.verdict.specs.declared.Verdict.{Verdict}
 use Rattle.verdict.specs.Orders.{Test, _or-else_, inOrder, refusal, good}
-use Rattle.verdict.specs.Refusals.{CUT, START, LENGTH, END, SUM, VERSION, COMMAND, TIME, UNIT, TYPE, COUNT, SIZE, KIND, TEXT}
+use Rattle.verdict.specs.Refusals.{CUT, START, LENGTH, END, SUM, VERSION, COMMAND, TIME, UNIT, TYPE, COUNT, KIND, TEXT}
 use Rattle.demands.specs.Rules.{Rule, in13, in14, labelAt, timelyBy, timeTestBy, unitBy, underBy, headTest, contentBy, packetBy, writerBy, begunBy, newTimelyBy, objectBy}
 use Rattle.demands.specs.Release13.{ObjectWithoutTime, WithoutTime, NewWithoutTime, Narrowed}
 
@@ -81,8 +81,8 @@ other : (n i : ℕ) → eqb n TIME ≡ false → refusal n 0 ≡ refusal TIME i 
 other n i differs e = eqb-false n TIME differs (ap (λ (v : Verdict). v .number) e)
 
 -- nor does one of a unit's shape
-others : (rs : List Row) (by : Carrier) (u : List ℕ) (i : ℕ) → Apart i (shapeTests rs by u)
-others rs by u i = (other UNIT i refl, (other TYPE i refl, (other COUNT i refl, (other SIZE i refl, tt))))
+others : (rs : List Row) (by : Carrier) (u : List ℕ) (i : ℕ) → Apart i (shapeBy oneSizeTest rs by u)
+others rs by u i = (other UNIT i refl, (other TYPE i refl, (other COUNT i refl, (other 14 i refl, tt))))
 
 module _ (r : Row) (u : List ℕ) where
   unlabelled : (j : Rule) (k : ℕ) → eqb (r .label) NONE ≡ true → timelyBy j r u k ≡ true
@@ -166,22 +166,22 @@ module _ (rs : List Row) (u : List ℕ) where
               false≢true (sym (not-true (timelyBy judged (rowOf rs u) u g) bad-now) ∙ ap (timelyBy judged (rowOf rs u) u) same ∙ t))
 
 module _ (rs : List Row) where
-  pub unit-narrowed : (by : Carrier) (u : List ℕ) → Narrowed (ObjectWithoutTime rs u) (unitBy judgedIn13 rs by u) (unitBy judged rs by u)
+  pub unit-narrowed : (by : Carrier) (u : List ℕ) → Narrowed (ObjectWithoutTime rs u) (unitBy in13 rs by u) (unitBy in14 rs by u)
   unfolding inOrder f g bad
-  unit-narrowed by u = over (ObjectWithoutTime rs u) (at rs u (f rs u)) (at rs u (g rs u)) (times-narrowed rs u) (shapeTests rs by u)
+  unit-narrowed by u = over (ObjectWithoutTime rs u) (at rs u (f rs u)) (at rs u (g rs u)) (times-narrowed rs u) (shapeBy oneSizeTest rs by u)
 
   pub under-narrowed : (c : ℕ) (u : List ℕ) → Narrowed (ObjectWithoutTime rs u) (underBy in13 rs c u) (underBy in14 rs c u)
   under-narrowed c u = over (ObjectWithoutTime rs u) _ _ (go (isKept c)) ((isCommand c or-else COMMAND) ∷ [])
     where
-      go : (b : Bool) → Narrowed (ObjectWithoutTime rs u) (cond b (inOrder (emptyTests u) good) (unitBy judgedIn13 rs (By c) u)) (cond b (inOrder (emptyTests u) good) (unitBy judged rs (By c) u))
+      go : (b : Bool) → Narrowed (ObjectWithoutTime rs u) (cond b (inOrder (emptyTests u) good) (unitBy in13 rs (By c) u)) (cond b (inOrder (emptyTests u) good) (unitBy in14 rs (By c) u))
       go true = inl refl
       go false = unit-narrowed (By c) u
 
   -- what a unit under a command is not refused for where the unit by itself is not
-  under-by : (c : ℕ) (u : List ℕ) (i : ℕ) → (unitBy judged rs (By c) u ≡ refusal TIME i → ⊥) → underBy in14 rs c u ≡ refusal TIME i → ⊥
+  under-by : (c : ℕ) (u : List ℕ) (i : ℕ) → (unitBy in14 rs (By c) u ≡ refusal TIME i → ⊥) → underBy in14 rs c u ≡ refusal TIME i → ⊥
   under-by c u i not-so = apart i ((isCommand c or-else COMMAND) ∷ []) _ (other COMMAND i refl, tt) (go (isKept c))
     where
-      go : (b : Bool) → cond b (inOrder (emptyTests u) good) (unitBy judged rs (By c) u) ≡ refusal TIME i → ⊥
+      go : (b : Bool) → cond b (inOrder (emptyTests u) good) (unitBy in14 rs (By c) u) ≡ refusal TIME i → ⊥
       go true = apart i (emptyTests u) good (other UNIT i refl, tt) (other 0 i refl)
       go false = not-so
 
@@ -190,7 +190,7 @@ module _ (rs : List Row) where
   unfolding inOrder
   under-apart c u =
       under-by c u 0
-      (apart 0 (shapeTests rs (By c) u) _ (others rs (By c) u 0)
+      (apart 0 (shapeBy oneSizeTest rs (By c) u) _ (others rs (By c) u 0)
       (apart 0 (timeTestBy judged (rowOf rs u) u ∷ []) good (λ e. omega (arith, ap (λ (v : Verdict). v .place) e), tt) (other 0 0 refl)))
 
   -- the header's label, then the unit under its command
@@ -221,13 +221,13 @@ module _ (rs : List Row) where
       let P = WithoutTime (d .label) rs (part out 27 (27 + l)) in
       over P _ _ (over P _ _ (writer-narrowed out (headed x c d (found x c .serial)) l) (openingTests out d l)) (beginTests x c)
 
-  pub object-narrowed : (u : List ℕ) (k : ℕ) (x : Fields) (d : List ℕ) → Narrowed (NewWithoutTime rs u k x) (objectBy judgedIn13 rs u k x d) (objectBy judged rs u k x d)
+  pub object-narrowed : (u : List ℕ) (k : ℕ) (x : Fields) (d : List ℕ) → Narrowed (NewWithoutTime rs u k x) (objectBy in13 rs u k x d) (objectBy in14 rs u k x d)
   unfolding inOrder newTimelyBy
   object-narrowed u k x d =
       over (NewWithoutTime rs u k x) _ _
       (label-test (NewWithoutTime rs u k x) good good (inl refl) (suc k) (newTimelyBy judgedIn13 (rowOf rs u) x) (newTimelyBy judged (rowOf rs u) x)
       (not (eqb (rowOf rs u .label) NONE) && isNoTime (x .label)) (go (eqb (rowOf rs u .label) NONE)) so (other 0 (suc k) refl))
-      ((shapeTests rs Any u ++ (numberTest u k ∷ []))
+      ((shapeBy oneSizeTest rs Any u ++ (numberTest u k ∷ []))
       ++ ((eqb (x .kind) (typeOf u) && eqb (rowOf rs u .text) NONE or-else KIND) ∷ (eqb (length d) (descriptionSize (rowOf rs u)) or-else TEXT) ∷ []))
     where
       go : (b : Bool) → cond b true (allowed (judged (x .label))) ≡ (cond b true (allowed (judgedIn13 (x .label))) || (not b && isNoTime (x .label)))
@@ -241,9 +241,9 @@ module _ (rs : List Row) where
 
 -- TIME is told of no label of six zeros, in the header or in an object
 module _ (rs : List Row) where
-  pub unit-spares : (by : Carrier) (u : List ℕ) (i : ℕ) → ObjectWithoutTime rs u i → unitBy judged rs by u ≡ refusal TIME i → ⊥
+  pub unit-spares : (by : Carrier) (u : List ℕ) (i : ℕ) → ObjectWithoutTime rs u i → unitBy in14 rs by u ≡ refusal TIME i → ⊥
   unfolding inOrder g bad
-  unit-spares by u i o = apart i (shapeTests rs by u) (at rs u (g rs u)) (others rs by u i) spared
+  unit-spares by u i o = apart i (shapeBy oneSizeTest rs by u) (at rs u (g rs u)) (others rs by u i) spared
     where
       timely-now : timelyBy judged (rowOf rs u) u (o .number) ≡ true
       timely-now =

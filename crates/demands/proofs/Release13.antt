@@ -1,4 +1,4 @@
--- What release 1.4 changed, exactly (document 02, Q-1): each verdict is as in 1.3, or it was TIME at a label of six zeros and no more is. What 1.5 changed is Release14's.
+-- What release 1.4 changed, exactly (document 02, Q-1): each verdict is as in 1.3, or it was TIME at a label of six zeros and no more is. What later ones changed is Release14's and Release15's.
 -- Assumes nothing.
 use Prim.Native.Nat.{ℕ, _+_}
 use mathlib.Core.Bool.{true, false}
@@ -35,7 +35,7 @@ label-as-in-1-3 l = (as-in-13 l, λ z. (no-time-in-13 l z, no-time-judged l z))
 pub packet-as-in-1-3 : (p : List ℕ) → Narrowed (WithoutTime (headerOf p .label) rows (unitOf p)) (packetBy in13 rows p) (packetBy in14 rows p)
 packet-as-in-1-3 p = over (WithoutTime (headerOf p .label) rows (unitOf p)) _ _ (content-narrowed rows p) (frameTests 1024 p)
 
-pub unit-as-in-1-3 : (u : List ℕ) → Narrowed (ObjectWithoutTime rows u) (unitBy judgedIn13 rows Any u) (unitBy judged rows Any u)
+pub unit-as-in-1-3 : (u : List ℕ) → Narrowed (ObjectWithoutTime rows u) (unitBy in13 rows Any u) (unitBy in14 rows Any u)
 unit-as-in-1-3 u = unit-narrowed rows Any u
 
 pub unit-under-as-in-1-3 : (c : ℕ) (u : List ℕ) → Narrowed (ObjectWithoutTime rows u) (underBy in13 rows c u) (underBy in14 rows c u)
@@ -45,7 +45,7 @@ unit-under-as-in-1-3 c u = under-narrowed rows c u
 pub packet-spares-zeros : (p : List ℕ) (i : ℕ) → WithoutTime (headerOf p .label) rows (unitOf p) i → packetBy in14 rows p ≡ refusal TIME i → ⊥
 packet-spares-zeros p i w e = packet-spares rows p i w e
 
-pub unit-spares-zeros : (u : List ℕ) (i : ℕ) → ObjectWithoutTime rows u i → unitBy judged rows Any u ≡ refusal TIME i → ⊥
+pub unit-spares-zeros : (u : List ℕ) (i : ℕ) → ObjectWithoutTime rows u i → unitBy in14 rows Any u ≡ refusal TIME i → ⊥
 unit-spares-zeros u i o e = unit-spares rows Any u i o e
 
 -- what is written, of the label that is handed over and of those in the unit that stands
@@ -57,7 +57,7 @@ pub begin-as-in-1-3 : (x : Exchanges) (c : ℕ) (out : List ℕ) (d : Draft) (l 
     → Narrowed (WithoutTime (d .label) rows (part out 27 (27 + l))) (begunBy in13 rows x c out d l) (begunBy in14 rows x c out d l)
 begin-as-in-1-3 x c out d l = begin-narrowed rows x c out d l
 
-pub write-object-as-in-1-3 : (u : List ℕ) (k : ℕ) (f : Fields) (d : List ℕ) → Narrowed (NewWithoutTime rows u k f) (objectBy judgedIn13 rows u k f d) (objectBy judged rows u k f d)
+pub write-object-as-in-1-3 : (u : List ℕ) (k : ℕ) (f : Fields) (d : List ℕ) → Narrowed (NewWithoutTime rows u k f) (objectBy in13 rows u k f d) (objectBy in14 rows u k f d)
 write-object-as-in-1-3 u k f d = object-narrowed rows u k f d
 
 -- a packet judged as before gets the same reply under a label that is judged as before, and is the same to the exchange table

@@ -1,3 +1,4 @@
 pub mod Rules
 pub mod Release13
 pub mod Release14
+pub mod Release15

@@ -1,5 +1,5 @@
--- The rules of a release, for what going back means (document 02: "Going back is also a release"): each order that Q-1 or Q-2 moved, over the rules z of a release. At `in15` it
--- is this release's, by computation (`this-release`), at `in13` and `in14` that of releases 1.3 and 1.4; what is answered, written and stored is each crate's own definition over what its order says.
+-- The rules of a release, for what going back means (document 02: "Going back is also a release"): each order that Q-1, Q-2 or Q-4 moved, over the rules z of a release. At
+-- `in16` it is this release's, by computation (`this-release`), at the others that of an earlier one; what is answered, written and stored is each crate's own definition over what its order says.
 -- Assumes nothing.
 use Prim.Native.Nat.{ℕ, suc, _+_}
 use mathlib.Core.Bool.{Bool, true, cond, _&&_}
@@ -31,30 +31,34 @@ use Rattle.taking.specs.Takes.{roleIn, takenAs}
 use Rattle.unit.specs.declared.Carrier.{Carrier}
 use Rattle.unit.specs.declared.Carrier.the-variants.{Any, By}
 use Rattle.unit.specs.Objects.{typeOf, countOf, objectAt}
-use Rattle.unit.specs.Places.{numberTest}
-use Rattle.unit.specs.Units.{rowOf, shapeTests, isKept, keptTests, emptyTests, isCommand}
+use Rattle.unit.specs.Places.{numberTest, placedAfter}
+use Rattle.unit.specs.Units.{rowOf, sizeTests, oneSizeTest, shapeBy, isKept, keptTests, emptyTests, isCommand}
 use Rattle.verdict.specs.declared.Verdict.{Verdict}
 use Rattle.verdict.specs.declared.Part.{Part}
 use Rattle.verdict.specs.Orders.{Test, _or-else_, inOrder, refusal, good, isGood, partBy}
 use Rattle.verdict.specs.Refusals.{VERSION, COMMAND, TIME, KIND, TEXT, ROOM}
 
--- a rule of labels (Q-1), and one of what a confirm or a deny carries (Q-2)
+-- a rule of labels (Q-1), one of what a confirm or a deny carries (Q-2), and one of a unit's size (Q-4)
 abbrev pub Rule : Type 0
 Rule = Label → Judgement
 
 pub record Rules : Type 0 where
   pub labels : Rule
   pub carried : List ℕ → List Test
+  pub sizes : Row → List ℕ → List Test
 
--- till 1.3 a label is a time or it is bad; till 1.4 "for 3 and 6 the unit is empty"
+-- till 1.3 a label is a time or it is bad; till 1.4 "for 3 and 6 the unit is empty"; till 1.5 a unit too short and one too long are refused alike
 abbrev pub in13 : Rules
-in13 = record { labels = judgedIn13; carried = emptyTests }
+in13 = record { labels = judgedIn13; carried = emptyTests; sizes = oneSizeTest }
 
 abbrev pub in14 : Rules
-in14 = record { labels = judged; carried = emptyTests }
+in14 = record { labels = judged; carried = emptyTests; sizes = oneSizeTest }
 
 abbrev pub in15 : Rules
-in15 = record { labels = judged; carried = keptTests }
+in15 = record { labels = judged; carried = keptTests; sizes = oneSizeTest }
+
+abbrev pub in16 : Rules
+in16 = record { labels = judged; carried = keptTests; sizes = sizeTests }
 
 -- the label of object k
 abbrev pub labelAt : Row → List ℕ → ℕ → Label
@@ -73,12 +77,15 @@ timeTestBy j r u =
     }
 
 -- the judge of a unit, and of one under a command, where a confirm's bytes are judged by their own tests
-abbrev pub unitBy : Rule → List Row → Carrier → List ℕ → Verdict
-unitBy j rs by u = inOrder (shapeTests rs by u ++ (timeTestBy j (rowOf rs u) u ∷ [])) good
+abbrev pub unitTestsBy : Rules → List Row → Carrier → List ℕ → List Test
+unitTestsBy z rs by u = shapeBy (z .sizes) rs by u ++ (timeTestBy (z .labels) (rowOf rs u) u ∷ [])
+
+abbrev pub unitBy : Rules → List Row → Carrier → List ℕ → Verdict
+unitBy z rs by u = inOrder (unitTestsBy z rs by u) good
 
 abbrev pub underBy : Rules → List Row → ℕ → List ℕ → Verdict
 underBy z rs c u =
-    inOrder ((isCommand c or-else COMMAND) ∷ []) (cond (isKept c) (inOrder (z .carried u) good) (unitBy (z .labels) rs (By c) u))
+    inOrder ((isCommand c or-else COMMAND) ∷ []) (cond (isKept c) (inOrder (z .carried u) good) (unitBy z rs (By c) u))
 
 -- "TIME of the header", of a label that is read or written
 abbrev pub headTest : Rule → Label → List Test
@@ -102,19 +109,26 @@ writerBy z rs out h l =
 abbrev pub begunBy : Rules → List Row → Exchanges → ℕ → List ℕ → Draft → ℕ → Verdict
 begunBy z rs x c out d l = inOrder (beginTests x c) (inOrder (openingTests out d l) (writerBy z rs out (headed x c d (found x c .serial)) l))
 
+-- where an object stands
+abbrev pub standsBy : Rules → List Row → List ℕ → ℕ → Part
+standsBy z rs u k = placedAfter (unitTestsBy z rs Any u) (rowOf rs u) u k
+
 -- the object writer
 unfoldable pub newTimelyBy : Rule → Row → Fields → Bool
 newTimelyBy j r f = cond (eqb (r .label) NONE) true (allowed (j (f .label)))
 
-abbrev pub objectBy : Rule → List Row → List ℕ → ℕ → Fields → List ℕ → Verdict
-objectBy j rs u k f d =
+abbrev pub objectBy : Rules → List Row → List ℕ → ℕ → Fields → List ℕ → Verdict
+objectBy z rs u k f d =
     inOrder
-    ((shapeTests rs Any u ++ (numberTest u k ∷ []))
+    ((shapeBy (z .sizes) rs Any u ++ (numberTest u k ∷ []))
     ++ ((eqb (f .kind) (typeOf u) && eqb (rowOf rs u .text) NONE or-else KIND)
     ∷ (eqb (length d) (descriptionSize (rowOf rs u)) or-else TEXT)
-    ∷ record { holds = newTimelyBy j (rowOf rs u) f; refused = refusal TIME (suc k) }
+    ∷ record { holds = newTimelyBy (z .labels) (rowOf rs u) f; refused = refusal TIME (suc k) }
     ∷ []))
     good
+
+abbrev pub objectInBy : Rules → List Row → List ℕ → ℕ → ℕ → Fields → List ℕ → Verdict
+objectInBy z rs out l k f d = inOrder (roomTests out l 27) (objectBy z rs (part out 27 (27 + l)) k f d)
 
 -- where the unit of a packet stands of which the judge says v
 abbrev pub placeAs : List ℕ → Verdict → Part

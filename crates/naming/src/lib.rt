@@ -47,7 +47,7 @@ fn verdict_name(number: u8) -> Name
         verdict::UNIT => named(*b"UNIT\0\0\0\0\0", 4),
         verdict::TYPE => named(*b"TYPE\0\0\0\0\0", 4),
         verdict::COUNT => named(*b"COUNT\0\0\0\0", 5),
-        verdict::SIZE => named(*b"SIZE\0\0\0\0\0", 4),
+        verdict::SHORT => named(*b"SHORT\0\0\0\0", 5),
         verdict::NUMBER => named(*b"NUMBER\0\0\0", 6),
         verdict::KIND => named(*b"KIND\0\0\0\0\0", 4),
         verdict::TEXT => named(*b"TEXT\0\0\0\0\0", 4),
@@ -59,6 +59,7 @@ fn verdict_name(number: u8) -> Name
         verdict::ORPHAN => named(*b"ORPHAN\0\0\0", 6),
         verdict::TAIL => named(*b"TAIL\0\0\0\0\0", 4),
         verdict::UNLISTED => named(*b"UNLISTED\0", 8),
+        verdict::LONG => named(*b"LONG\0\0\0\0\0", 4),
         verdict::CENTRE => named(*b"CENTRE\0\0\0", 6),
         _ => named([0; 9], 0),
     }

@@ -18,9 +18,12 @@ use Rattle.output.specs.Writing.{roomTests}
 unfoldable pub objectVerdict : List Row → List ℕ → ℕ → ℕ → Fields → List ℕ → Verdict
 objectVerdict rs out l k f d = inOrder (roomTests out l 27) (writeVerdict rs (part out 27 (27 + l)) k f d)
 
+-- the unit w put back where it stands
+abbrev pub unitPut : List ℕ → ℕ → List ℕ → List ℕ
+unitPut out l w = cond (isGood (inOrder (roomTests out l 27) good)) (putAt out 27 w) out
+
 unfoldable pub writtenObject : List Entry → List ℕ → ℕ → ℕ → Fields → List ℕ → List ℕ
-writtenObject es out l k f d =
-    cond (isGood (inOrder (roomTests out l 27) good)) (putAt out 27 (writtenUnit es (part out 27 (27 + l)) k f d)) out
+writtenObject es out l k f d = unitPut out l (writtenUnit es (part out 27 (27 + l)) k f d)
 
 -- the type 26 writer has all from byte 28 on
 abbrev pub outputTextVerdict : List ℕ → List ℕ → Verdict

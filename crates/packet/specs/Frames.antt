@@ -30,7 +30,7 @@ headerTests p =
     ∷ (allowed (judged (labelOf (drop 6 p))) or-else TIME)
     ∷ []
 
--- what the judge says of a packet whose frame is good: the header, then "UNIT, TYPE, COUNT, SIZE, TIME of the first bad object"
+-- what the judge says of a packet whose frame is good: the header, then "UNIT, TYPE, COUNT", SHORT, LONG, "TIME of the first bad object"
 unfoldable pub judgedContent : List Row → List ℕ → Verdict
 judgedContent rs p = inOrder (headerTests p) (judgedUnder rs (commandOf p) (unitOf p))
 

@@ -1,9 +1,12 @@
 pub mod Walks
+pub mod Sizes
 pub mod Shapes
 pub mod Times
 pub mod Judging
 pub mod Under
 pub mod Placing
 pub mod Good
+pub mod Cuts
+pub mod Split
 pub mod Lengths
 pub mod Examples

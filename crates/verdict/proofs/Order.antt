@@ -108,6 +108,21 @@ refusing-append (t ∷ ts) us p q = by-test (isGood (t .refused)) p (refusing-ap
 pub held-good : (ts : List Test) → Held ts → isGood (inOrder ts good) ≡ true
 held-good ts h = ap isGood (all-passed ts good h)
 
+-- each refusal told in other words
+abbrev pub retold : (Verdict → Verdict) → List Test → List Test
+retold f [] = []
+retold f (t ∷ ts) = record { holds = t .holds; refused = f (t .refused) } ∷ retold f ts
+
+-- and so the order's verdict
+pub in-other-words : (f : Verdict → Verdict) (ts : List Test) (v : Verdict) → inOrder (retold f ts) (f v) ≡ f (inOrder ts v)
+unfolding inOrder
+in-other-words f [] v = refl
+in-other-words f (t ∷ ts) v = go (t .holds) (in-other-words f ts v)
+  where
+    go : (b : Bool) → inOrder (retold f ts) (f v) ≡ f (inOrder ts v) → cond b (inOrder (retold f ts) (f v)) (f (t .refused)) ≡ f (cond b (inOrder ts v) (t .refused))
+    go true ih = ih
+    go false ih = refl
+
 -- no test refuses by a number
 abbrev pub lacks : ℕ → List Test → Bool
 lacks n [] = true

@@ -1,4 +1,4 @@
--- Document 01, "Refusal numbers": each number under its name.
+-- Document 01, "Refusal numbers", and document 02: each number under its name.
 -- Assumes nothing.
 use Prim.Native.Nat.{ℕ}
 use Prim.Native.String.{String}
@@ -44,8 +44,9 @@ TYPE = 12
 abbrev pub COUNT : ℕ
 COUNT = 13
 
-abbrev pub SIZE : ℕ
-SIZE = 14
+-- document 02, Q-4: "14 SHORT where the unit ends before its last object does", in place of SIZE
+abbrev pub SHORT : ℕ
+SHORT = 14
 
 abbrev pub NUMBER : ℕ
 NUMBER = 15
@@ -80,6 +81,10 @@ TAIL = 24
 abbrev pub UNLISTED : ℕ
 UNLISTED = 25
 
+-- Q-4: "28 LONG where bytes follow it"
+abbrev pub LONG : ℕ
+LONG = 28
+
 -- document 02, Q-11: "30 CENTRE .. for a centre other than the two"
 abbrev pub CENTRE : ℕ
 CENTRE = 30
@@ -97,9 +102,9 @@ abbrev pub refusals : List Row
 refusals =
     row STATE "STATE" ∷ row ROOM "ROOM" ∷ row CUT "CUT" ∷ row START "START" ∷ row LENGTH "LENGTH" ∷ row END "END" ∷ row SUM "SUM"
     ∷ row VERSION "VERSION" ∷ row COMMAND "COMMAND" ∷ row TIME "TIME" ∷ row UNIT "UNIT" ∷ row TYPE "TYPE" ∷ row COUNT "COUNT"
-    ∷ row SIZE "SIZE" ∷ row NUMBER "NUMBER" ∷ row KIND "KIND" ∷ row TEXT "TEXT" ∷ row SETTING "SETTING" ∷ row FULL "FULL"
+    ∷ row SHORT "SHORT" ∷ row NUMBER "NUMBER" ∷ row KIND "KIND" ∷ row TEXT "TEXT" ∷ row SETTING "SETTING" ∷ row FULL "FULL"
     ∷ row STRAY "STRAY" ∷ row MANY "MANY" ∷ row ORDER "ORDER" ∷ row ORPHAN "ORPHAN" ∷ row TAIL "TAIL" ∷ row UNLISTED "UNLISTED"
-    ∷ row CENTRE "CENTRE" ∷ []
+    ∷ row LONG "LONG" ∷ row CENTRE "CENTRE" ∷ []
 
 abbrev pub numbers : List ℕ
 numbers = map (λ (r : Row). r .number) refusals

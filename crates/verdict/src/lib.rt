@@ -44,7 +44,7 @@ pub const TYPE: u8 = 12;
 
 pub const COUNT: u8 = 13;
 
-pub const SIZE: u8 = 14;
+pub const SHORT: u8 = 14;
 
 pub const NUMBER: u8 = 15;
 
@@ -67,6 +67,8 @@ pub const ORPHAN: u8 = 23;
 pub const TAIL: u8 = 24;
 
 pub const UNLISTED: u8 = 25;
+
+pub const LONG: u8 = 28;
 
 pub const CENTRE: u8 = 30;
 
@@ -106,7 +108,7 @@ impl Part {
 }
 
 // Every refusal number, in the order of document 01's table, then document 02's.
-pub fn all_numbers() -> [u8; 26]
+pub fn all_numbers() -> [u8; 27]
     ensures { λ r. ⌜ r ≡ numbers ⌝ }
 {
     [
@@ -123,7 +125,7 @@ pub fn all_numbers() -> [u8; 26]
         UNIT,
         TYPE,
         COUNT,
-        SIZE,
+        SHORT,
         NUMBER,
         KIND,
         TEXT,
@@ -135,6 +137,7 @@ pub fn all_numbers() -> [u8; 26]
         ORPHAN,
         TAIL,
         UNLISTED,
+        LONG,
         CENTRE,
     ]
 }

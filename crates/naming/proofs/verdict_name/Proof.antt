@@ -39,6 +39,7 @@ verdict-name-spec =
     unasked
     unasked
     unasked
+    unasked
     (λ c. search verdict-as)  -- OK
     (λ c. search verdict-as)  -- STATE
     (λ c. search verdict-as)  -- ROOM
@@ -53,7 +54,7 @@ verdict-name-spec =
     (λ c. search verdict-as)  -- UNIT
     (λ c. search verdict-as)  -- TYPE
     (λ c. search verdict-as)  -- COUNT
-    (λ c. search verdict-as)  -- SIZE
+    (λ c. search verdict-as)  -- SHORT
     (λ c. search verdict-as)  -- NUMBER
     (λ c. search verdict-as)  -- KIND
     (λ c. search verdict-as)  -- TEXT
@@ -65,5 +66,6 @@ verdict-name-spec =
     (λ c. search verdict-as)  -- ORPHAN
     (λ c. search verdict-as)  -- TAIL
     (λ c. search verdict-as)  -- UNLISTED
+    (λ c. search verdict-as)  -- LONG
     (λ c. search verdict-as)  -- CENTRE
     (λ c. no-verdict (c .before .before .args .number) _ (c .before .match .rest) (search needs)))
