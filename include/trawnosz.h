@@ -143,7 +143,7 @@ enum {
     TRAWNOSZ_SHOWN_NO_LABEL = 3  /* an object of a type without a label; the label's numbers are zero */
 };
 
-/* 0 and 0, or a refusal's number and its place (0 where none is named). */
+/* 0 and 0, or a refusal's number and its place, 0 where none is named. Of SHORT 0 is object 0, of TIME object i is i+1. */
 typedef struct trawnosz_verdict {
     uint8_t number;
     size_t place;
@@ -377,8 +377,9 @@ trawnosz_verdict trawnosz_write_packet_object(uint8_t *out, size_t out_length, s
 trawnosz_verdict trawnosz_write_packet_text(uint8_t *out, size_t out_length, const uint8_t *text, size_t text_length);
 
 /* Writes the reply that is due to a packet, 30 bytes, to the front of `out`. It carries nothing, and none is due to a confirm
- * or a deny, whatever that carries, good or refused. Refuses CUT, START, LENGTH, CUT, END, SUM of the packet; then, where a
- * reply is due, TIME of the label (six zeros are none) and ROOM (under 30). */
+ * or a deny, whatever that carries, good or refused; a deny is due to a packet of any other command but 5 that is refused at
+ * VERSION or later in the judge's order, SHORT and LONG among them. Refuses CUT, START, LENGTH, CUT, END, SUM of the packet;
+ * then, where a reply is due, TIME of the label (six zeros are none) and ROOM (under 30). */
 trawnosz_answer trawnosz_answer_to(const uint8_t *packet, size_t packet_length, trawnosz_label label, uint8_t *out,
                                    size_t out_length);
 
@@ -445,9 +446,9 @@ trawnosz_begun trawnosz_begin_and_write(trawnosz_exchanges table, uint8_t centre
 
 /* The step of the exchange that the reply fits, with its place and outcome: `source` is the source address of the reply's
  * packet, and only an exchange of the centre that has this address fits; a confirm fits a send, an answer a request, a deny
- * either, a bad answer (command 5, refused at VERSION or later in the order of a packet's judge, so LONG too, not by the
- * number) a request. Refuse STATE, STRAY (also where neither centre has the address). Of a refused answer trawnosz_read_packet
- * gives zeros: trawnosz_take_packet, below, takes serial and source from the bytes. */
+ * either, a bad answer (command 5, refused at VERSION or later in the order of trawnosz_judge_packet; LONG is among them,
+ * though its number is 28) a request. Refuse STATE, STRAY (also where neither centre has the address). Of a refused answer
+ * trawnosz_read_packet gives zeros: trawnosz_take_packet, below, takes serial and source from the bytes. */
 trawnosz_replied trawnosz_reply_confirm(trawnosz_exchanges table, trawnosz_address source, uint16_t serial);
 trawnosz_replied trawnosz_reply_answer(trawnosz_exchanges table, trawnosz_address source, uint16_t serial);
 trawnosz_replied trawnosz_reply_deny(trawnosz_exchanges table, trawnosz_address source, uint16_t serial);

@@ -45,7 +45,7 @@ reply p =
     of (answer .verdict) ++ (commandFor (answer .due) ∷ take 3 (drop 24 out))
 
 -- none is due: the output is as it was
-abbrev none : List ℕ
+abbrev pub none : List ℕ
 none = of good ++ (0 ∷ 1 ∷ 1 ∷ 1 ∷ [])
 
 abbrev A-with-FF : List ℕ

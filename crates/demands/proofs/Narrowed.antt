@@ -31,7 +31,7 @@ use Rattle.unit.specs.declared.Carrier.{Carrier}
 use Rattle.unit.specs.declared.Carrier.the-variants.{Any, By}
 use Rattle.unit.specs.Objects.{typeOf, countOf}
 use Rattle.unit.specs.Places.{numberTest}
-use Rattle.unit.specs.Units.{rowOf, oneSizeTest, shapeBy, isKept, emptyTests, isCommand}
+use Rattle.unit.specs.Units.{rowOf, oneSize, oneSizeTest, shapeBy, isKept, emptyTests, isCommand}
 use Rattle.verdict.specs.declared.Verdict.{Verdict}
 use Rattle.verdict.specs.Orders.{Test, _or-else_, inOrder, refusal, good}
 use Rattle.verdict.specs.Refusals.{CUT, START, LENGTH, END, SUM, VERSION, COMMAND, TIME, UNIT, TYPE, COUNT, KIND, TEXT}
@@ -82,7 +82,7 @@ other n i differs e = eqb-false n TIME differs (ap (λ (v : Verdict). v .number)
 
 -- nor does one of a unit's shape
 others : (rs : List Row) (by : Carrier) (u : List ℕ) (i : ℕ) → Apart i (shapeBy oneSizeTest rs by u)
-others rs by u i = (other UNIT i refl, (other TYPE i refl, (other COUNT i refl, (other 14 i refl, tt))))
+others rs by u i = (other UNIT i refl, (other TYPE i refl, (other COUNT i refl, (other (oneSize .number) i refl, tt))))
 
 module _ (r : Row) (u : List ℕ) where
   unlabelled : (j : Rule) (k : ℕ) → eqb (r .label) NONE ≡ true → timelyBy j r u k ≡ true

@@ -10,29 +10,29 @@ use lib.Dec.{leb}
 use lib.ListN.{length}
 use Rattle.exchange.specs.declared.Draft.{Draft}
 use Rattle.exchange.specs.declared.Exchanges.{Exchanges}
-use Rattle.exchange.specs.Begins.{headed, modeOf, openingTests, begunVerdict, begunAs, begun, begunOutput}
+use Rattle.exchange.specs.Begins.{headed, modeOf, openingTests, begunAs}
 use Rattle.exchange.specs.Table.{beginTests, found, untold}
 use Rattle.frame.specs.Frame.{unitLength, frameTests}
 use Rattle.kinds.specs.Table.{rows}
 use Rattle.label.specs.declared.Label.{Label}
 use Rattle.label.specs.Times.{judged, allowed}
 use Rattle.octets.specs.Parts.{part}
-use Rattle.octets.proofs.Flags.{by-test}
-use Rattle.output.specs.Writing.{roomTests, fieldTests, packetVerdict, writtenAs, writtenPacket}
+use Rattle.octets.proofs.Flags.{by-test, of-either}
+use Rattle.output.specs.Writing.{roomTests, fieldTests, writtenAs}
 use Rattle.output.proofs.Carried.{output-long}
 use Rattle.packet.specs.declared.Header.{Header}
-use Rattle.packet.specs.Frames.{commandOf, unitOf, headerTests, judgedPacket, unitPlace}
-use Rattle.packet.specs.Headers.{headerOf, readAs, openedPacket}
+use Rattle.packet.specs.Frames.{commandOf, unitOf, headerTests}
+use Rattle.packet.specs.Headers.{headerOf, readAs}
 use Rattle.packet.proofs.Carried.{unit-long}
 use Rattle.place.specs.Rules.{isOpen}
 use Rattle.reply.specs.declared.Due.{Due}
 use Rattle.reply.specs.declared.Due.the-variants.{Nothing}
-use Rattle.reply.specs.Replies.{dueAs, dueTo, answerAs, answered, writtenReplyAs, writtenReply}
+use Rattle.reply.specs.Replies.{dueAs, answerAs, writtenReplyAs}
 use Rattle.reply.proofs.Promises.{none-to-kept}
 use Rattle.taking.specs.declared.Role.{Role}
 use Rattle.taking.specs.declared.Role.the-variants.{Other}
-use Rattle.taking.specs.Takes.{roleIn, takenAs, taken}
-use Rattle.unit.specs.Units.{isKept, emptyTests, judgedUnder}
+use Rattle.taking.specs.Takes.{roleIn, takenAs}
+use Rattle.unit.specs.Units.{isKept, emptyTests}
 use Rattle.unit.proofs.Under.{by-kept, kept-command, kept-good}
 use Rattle.verdict.specs.declared.Verdict.{Verdict}
 use Rattle.verdict.specs.Orders.{Test, _or-else_, inOrder, refusal, good, isGood, refusing, noPart, partBy}
@@ -127,11 +127,10 @@ module _ (out : List ℕ) (h : Header) (l : ℕ) where
 
   pub write-packet-as-in-1-4 : (writerBy in14 rows out h l ≡ saidIn14 (h .command) l (writerBy in15 rows out h l))
       × (writtenAs out h l (writerBy in14 rows out h l) ≡ cond (newlyGood (h .command) l (writerBy in15 rows out h l)) out (writtenAs out h l (writerBy in15 rows out h l)))
-  write-packet-as-in-1-4 = (writer-said, ap (writtenAs out h l) writer-said ∙ go (newlyGood (h .command) l (writerBy in15 rows out h l)))
-    where
-      go : (b : Bool) → writtenAs out h l (cond b (refusal UNIT 0) (writerBy in15 rows out h l)) ≡ cond b out (writtenAs out h l (writerBy in15 rows out h l))
-      go true = refl
-      go false = refl
+  write-packet-as-in-1-4 = (
+    writer-said,
+    ap (writtenAs out h l) writer-said ∙ of-either (writtenAs out h l) (newlyGood (h .command) l (writerBy in15 rows out h l)) (refusal UNIT 0) (writerBy in15 rows out h l),
+  )
 
 -- a beginning is never under 3 or 6, so it is as it was: verdict, place, serial, table and every byte of the output
 opens-none : (c : ℕ) → isOpen (modeOf c) ≡ true → isKept c ≡ false
@@ -176,15 +175,10 @@ pub read-as-in-1-4 : (p : List ℕ)
     → (readAs p (packetBy in14 rows p) ≡ cond (isNew rows p) (readAs p (refusal UNIT 0)) (readAs p (packetBy in15 rows p)))
     × (placeAs p (packetBy in14 rows p) ≡ cond (isNew rows p) (noPart (refusal UNIT 0)) (placeAs p (packetBy in15 rows p)))
 unfolding partBy
-read-as-in-1-4 p = (ap (readAs p) (packet-as-in-1-4 p) ∙ read (isNew rows p), ap (placeAs p) (packet-as-in-1-4 p) ∙ place (isNew rows p))
-  where
-    read : (b : Bool) → readAs p (cond b (refusal UNIT 0) (packetBy in15 rows p)) ≡ cond b (readAs p (refusal UNIT 0)) (readAs p (packetBy in15 rows p))
-    read true = refl
-    read false = refl
-
-    place : (b : Bool) → placeAs p (cond b (refusal UNIT 0) (packetBy in15 rows p)) ≡ cond b (noPart (refusal UNIT 0)) (placeAs p (packetBy in15 rows p))
-    place true = refl
-    place false = refl
+read-as-in-1-4 p = (
+  ap (readAs p) (packet-as-in-1-4 p) ∙ of-either (readAs p) (isNew rows p) (refusal UNIT 0) (packetBy in15 rows p),
+  ap (placeAs p) (packet-as-in-1-4 p) ∙ of-either (placeAs p) (isNew rows p) (refusal UNIT 0) (packetBy in15 rows p),
+)
 
 -- the reply is the same to every packet: what is due, the answer and every byte of the output
 pub reply-as-in-1-4 : (p : List ℕ) (t : Label) (out : List ℕ)

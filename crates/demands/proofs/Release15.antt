@@ -6,7 +6,6 @@ use mathlib.Core.List.{List, [], _∷_, _++_}
 use mathlib.Core.Path.{_≡_, refl, sym, ap, _∙_}
 use borrow.Author.Tests.{eqb-true, ne-eqb}
 use lib.Dec.{eqb}
-use lib.ListN.{length}
 use Rattle.exchange.specs.declared.Draft.{Draft}
 use Rattle.exchange.specs.declared.Exchanges.{Exchanges}
 use Rattle.exchange.specs.Begins.{headed, openingTests, begunVerdict, begunAs, begun, begunOutput}
@@ -17,9 +16,9 @@ use Rattle.kinds.specs.Table.{Entry, table, entryOf, rows}
 use Rattle.label.specs.declared.Label.{Label}
 use Rattle.label.specs.Times.{judged, allowed}
 use Rattle.naming.specs.Names.{names, ascii, lettersIn, letters}
-use Rattle.objects.specs.Writing.{isTimely, newTests, writeVerdict, writtenUnitAs, writtenUnit}
+use Rattle.objects.specs.Writing.{isTimely, placedTests, writeVerdict, writtenUnitAs, writtenUnit}
 use Rattle.octets.specs.Parts.{part}
-use Rattle.octets.proofs.Flags.{by-test}
+use Rattle.octets.proofs.Flags.{by-test, of-either}
 use Rattle.output.specs.Objects.{objectVerdict, unitPut, writtenObject}
 use Rattle.output.specs.Writing.{roomTests, fieldTests, packetVerdict, writtenAs, writtenPacket}
 use Rattle.packet.specs.declared.Header.{Header}
@@ -35,8 +34,8 @@ use Rattle.unit.specs.declared.Carrier.{Carrier}
 use Rattle.unit.specs.declared.Carrier.the-variants.{Any, By}
 use Rattle.unit.specs.Objects.{typeOf, timely, objectAt}
 use Rattle.unit.specs.Places.{numberTest, placedAfter, objectPlace}
-use Rattle.unit.specs.Units.{rowOf, timeTest, unitTests, isKept, keptTests, isCommand, judgedUnit, judgedUnder, ofSize, asOneSize}
-use Rattle.unit.proofs.Split.{order-was, unit-was}
+use Rattle.unit.specs.Units.{rowOf, timeTest, unitTests, isKept, keptTests, isCommand, judgedUnit, judgedUnder, oneSize, ofSize, asOneSize}
+use Rattle.unit.proofs.Split.{order-was, unit-was, of-size-refused}
 use Rattle.verdict.specs.declared.Verdict.{Verdict}
 use Rattle.verdict.specs.declared.Part.{Part}
 use Rattle.verdict.specs.Orders.{_or-else_, inOrder, refusal, good, isGood, partBy, noPart}
@@ -50,22 +49,16 @@ use Rattle.demands.proofs.Release14.{packet-spares-zeros-in-1-5}
 use Rattle.demands.proofs.ThisRelease.{content-now, due-now, replied-now}
 
 -- 1.5's verdict is good exactly where this one is, so what is written and stored on a good one is the same
-pub good-as-now : (v : Verdict) → isGood (asOneSize v) ≡ isGood v
-good-as-now v = by-test (ofSize v) (λ e. ap (λ (b : Bool). isGood (cond b (refusal 14 0) v)) e ∙ sym (sized e)) (λ e. ap (λ (b : Bool). isGood (cond b (refusal 14 0) v)) e)
-  where
-    sized : ofSize v ≡ true → isGood v ≡ false
-    sized e = by-test (isGood v) (λ g. absurd (false≢true (sym (ap (λ (n : ℕ). ofSize (refusal n 0)) (eqb-true (v .number) 0 g)) ∙ e))) (λ b. b)
+good-as-now : (v : Verdict) → isGood (asOneSize v) ≡ isGood v
+good-as-now v =
+    by-test (ofSize v) (λ e. ap (λ (b : Bool). isGood (cond b oneSize v)) e ∙ sym (of-size-refused v e)) (λ e. ap (λ (b : Bool). isGood (cond b oneSize v)) e)
 
 same-on-good : {A : Type 0} (a b : A) (v : Verdict) → cond (isGood (asOneSize v)) a b ≡ cond (isGood v) a b
 same-on-good a b v = ap (λ (t : Bool). cond t a b) (good-as-now v)
 
--- what follows from a verdict alone is what follows from 14 where it is SHORT or LONG, and what follows now everywhere else
-either : {A : Type 0} (f : Verdict → A) (v : Verdict) → f (asOneSize v) ≡ cond (ofSize v) (f (refusal 14 0)) (f v)
-either f v = go (ofSize v)
-  where
-    go : (b : Bool) → f (cond b (refusal 14 0) v) ≡ cond b (f (refusal 14 0)) (f v)
-    go true = refl
-    go false = refl
+-- what follows from a verdict alone is what follows from SIZE where it is SHORT or LONG, and what follows now everywhere else
+either : {A : Type 0} (f : Verdict → A) (v : Verdict) → f (asOneSize v) ≡ cond (ofSize v) (f oneSize) (f v)
+either f v = of-either f (ofSize v) oneSize v
 
 -- DEMAND 2 and document 02's "Going back is also a release": a unit, alone and whatever carries it, and under a command
 pub unit-as-in-1-5 : (by : Carrier) (u : List ℕ) → unitBy in15 rows by u ≡ asOneSize (judgedUnit rows by u)
@@ -83,7 +76,7 @@ unit-under-as-in-1-5 c u =
     go false = unit-as-in-1-5 (By c) u
 
 -- where an object stands, and so what is read of it
-pub object-as-in-1-5 : (u : List ℕ) (k : ℕ) → standsBy in15 rows u k ≡ cond (ofSize (objectPlace rows u k .verdict)) (noPart (refusal 14 0)) (objectPlace rows u k)
+pub object-as-in-1-5 : (u : List ℕ) (k : ℕ) → standsBy in15 rows u k ≡ cond (ofSize (objectPlace rows u k .verdict)) (noPart oneSize) (objectPlace rows u k)
 unfolding objectPlace placedAfter partBy timelyBy timely
 object-as-in-1-5 u k =
     let v = inOrder (unitTests rows Any u ++ (numberTest u k ∷ [])) good in
@@ -91,23 +84,19 @@ object-as-in-1-5 u k =
     let to = objectAt (rowOf rows u) u (suc k) in
     ap (λ (w : Verdict). partBy w from to) (order-was rows Any u (timeTest (rowOf rows u) u ∷ numberTest u k ∷ []) good)
     ∙ either (λ (w : Verdict). partBy w from to) v
-    ∙ ap (λ (w : Verdict). cond (ofSize w) (noPart (refusal 14 0)) (partBy v from to)) (sym (part-good v from to .0))
+    ∙ ap (λ (w : Verdict). cond (ofSize w) (noPart oneSize) (partBy v from to)) (sym (part-good v from to .0))
 
 -- so with what is read of it, and with its description
 module _ (u : List ℕ) (k : ℕ) where
-  follows : {A : Type 0} (f : Part → A) → f (standsBy in15 rows u k) ≡ cond (ofSize (objectPlace rows u k .verdict)) (f (noPart (refusal 14 0))) (f (objectPlace rows u k))
-  follows f = ap f (object-as-in-1-5 u k) ∙ go (ofSize (objectPlace rows u k .verdict))
-    where
-      go : (b : Bool) → f (cond b (noPart (refusal 14 0)) (objectPlace rows u k)) ≡ cond b (f (noPart (refusal 14 0))) (f (objectPlace rows u k))
-      go true = refl
-      go false = refl
+  follows : {A : Type 0} (f : Part → A) → f (standsBy in15 rows u k) ≡ cond (ofSize (objectPlace rows u k .verdict)) (f (noPart oneSize)) (f (objectPlace rows u k))
+  follows f = ap f (object-as-in-1-5 u k) ∙ of-either f (ofSize (objectPlace rows u k .verdict)) (noPart oneSize) (objectPlace rows u k)
 
   abbrev entry : Entry
   entry = entryOf table (typeOf u)
 
   pub read-object-as-in-1-5 : (typedAt entry u (standsBy in15 rows u k)
-      ≡ cond (ofSize (objectPlace rows u k .verdict)) (typedAt entry u (noPart (refusal 14 0))) (typedObject table u k))
-      × (describedAt (rowOf rows u) (standsBy in15 rows u k) ≡ cond (ofSize (objectPlace rows u k .verdict)) (noPart (refusal 14 0)) (descriptionPlace rows u k))
+      ≡ cond (ofSize (objectPlace rows u k .verdict)) (typedAt entry u (noPart oneSize)) (typedObject table u k))
+      × (describedAt (rowOf rows u) (standsBy in15 rows u k) ≡ cond (ofSize (objectPlace rows u k .verdict)) (noPart oneSize) (descriptionPlace rows u k))
   unfolding typedObject descriptionPlace
   read-object-as-in-1-5 = (follows (typedAt entry u), follows (describedAt (rowOf rows u)))
 
@@ -116,14 +105,17 @@ unfolding judgedContent
 content-said p =
     ap (inOrder (headerTests p)) (unit-under-as-in-1-5 (commandOf p) (unitOf p)) ∙ in-other-words asOneSize (headerTests p) (judgedUnder rows (commandOf p) (unitOf p))
 
+content-good : (p : List ℕ) → isGood (contentBy in15 rows p) ≡ isGood (judgedContent rows p)
+content-good p = ap isGood (content-said p) ∙ good-as-now (judgedContent rows p)
+
 -- a packet, what is read of it and where its unit stands
 pub packet-as-in-1-5 : (p : List ℕ) → packetBy in15 rows p ≡ asOneSize (judgedPacket rows p)
 unfolding judgedPacket
 packet-as-in-1-5 p = ap (inOrder (frameTests 1024 p)) (content-said p) ∙ in-other-words asOneSize (frameTests 1024 p) (judgedContent rows p)
 
 pub read-as-in-1-5 : (p : List ℕ)
-    → (readAs p (packetBy in15 rows p) ≡ cond (ofSize (judgedPacket rows p)) (readAs p (refusal 14 0)) (openedPacket rows p))
-    × (placeAs p (packetBy in15 rows p) ≡ cond (ofSize (judgedPacket rows p)) (noPart (refusal 14 0)) (unitPlace rows p))
+    → (readAs p (packetBy in15 rows p) ≡ cond (ofSize (judgedPacket rows p)) (readAs p oneSize) (openedPacket rows p))
+    × (placeAs p (packetBy in15 rows p) ≡ cond (ofSize (judgedPacket rows p)) (noPart oneSize) (unitPlace rows p))
 unfolding openedPacket unitPlace partBy
 read-as-in-1-5 p = (
   ap (readAs p) (packet-as-in-1-5 p) ∙ either (readAs p) (judgedPacket rows p),
@@ -147,7 +139,7 @@ module _ (out : List ℕ) (h : Header) (l : ℕ) where
 module _ (u : List ℕ) (k : ℕ) (f : Fields) (d : List ℕ) where
   object-said : objectBy in15 rows u k f d ≡ asOneSize (writeVerdict rows u k f d)
   unfolding writeVerdict newTimelyBy isTimely
-  object-said = order-was rows Any u (numberTest u k ∷ newTests (rowOf rows u) (typeOf u) k f (length d)) good
+  object-said = order-was rows Any u (placedTests rows u k f d) good
 
   pub write-object-as-in-1-5 : (objectBy in15 rows u k f d ≡ asOneSize (writeVerdict rows u k f d))
       × (writtenUnitAs table u k f d (objectBy in15 rows u k f d) ≡ writtenUnit table u k f d)
@@ -176,7 +168,7 @@ module _ (x : Exchanges) (c : ℕ) (out : List ℕ) (d : Draft) (l : ℕ) where
 
   pub begin-as-in-1-5 : (begunBy in15 rows x c out d l ≡ asOneSize (begunVerdict rows x c out d l))
       × (begunAs x c d l (begunBy in15 rows x c out d l)
-      ≡ cond (ofSize (begunVerdict rows x c out d l)) (begunAs x c d l (refusal 14 0)) (begun rows x c out d l))
+      ≡ cond (ofSize (begunVerdict rows x c out d l)) (begunAs x c d l oneSize) (begun rows x c out d l))
       × (begunOutputAs x c out d l (begunBy in15 rows x c out d l) (writerBy in15 rows out head l) ≡ begunOutput rows x c out d l)
   unfolding begun begunOutput
   begin-as-in-1-5 = (
@@ -200,22 +192,19 @@ reply-as-in-1-5 p t out = (
     due : dueBy in15 rows p ≡ dueBy in16 rows p
     due =
         ap (λ (b : Bool). cond b (toGood (commandOf p)) (toRefused (commandOf p)))
-        (ap isGood (content-said p) ∙ good-as-now (judgedContent rows p) ∙ ap isGood (sym (content-now rows p)))
+        (content-good p ∙ ap isGood (sym (content-now rows p)))
 
 -- a packet is the same to the exchange table, a refused one too, but for the number and place that are told of one that is no reply
 pub take-as-in-1-5 : (x : Exchanges) (p : List ℕ)
     → takenBy in15 rows x p
-    ≡ cond (ofSize (judgedPacket rows p)) (takenAs (roleOf rows p) x (headerOf p .source) (headerOf p .serial) (refusal 14 0)) (taken rows x p)
+    ≡ cond (ofSize (judgedPacket rows p)) (takenAs (roleOf rows p) x (headerOf p .source) (headerOf p .serial) oneSize) (taken rows x p)
 unfolding taken roleOf
 take-as-in-1-5 x p =
-    (λ i. takenAs (role (good-content i)) x (headerOf p .source) (headerOf p .serial) (packet-as-in-1-5 p i))
+    (λ i. takenAs (role (content-good p i)) x (headerOf p .source) (headerOf p .serial) (packet-as-in-1-5 p i))
     ∙ either (takenAs (role (isGood (judgedContent rows p))) x (headerOf p .source) (headerOf p .serial)) (judgedPacket rows p)
   where
     role : Bool → Role
     role b = cond (isGood (inOrder (frameTests 1024 p) good)) (roleIn b (commandOf p)) Other
-
-    good-content : isGood (contentBy in15 rows p) ≡ isGood (judgedContent rows p)
-    good-content = ap isGood (content-said p) ∙ good-as-now (judgedContent rows p)
 
 -- what 1.4 changed stands: TIME is told of no label of six zeros
 pub packet-spares-zeros-still : (p : List ℕ) (i : ℕ) → WithoutTime (headerOf p .label) rows (unitOf p) i → judgedPacket rows p ≡ refusal TIME i → ⊥
@@ -242,12 +231,12 @@ pub name-as-in-1-5 : (n : ℕ) → (lettersIn15 SHORT ≡ ascii "SIZE") × (lett
 unfolding lettersIn15 lettersIn letters
 name-as-in-1-5 n = (refl, refl, titled-other names n)
 
--- and so the listing: where it now prints SHORT or LONG, 1.5 prints SIZE, and the same word everywhere else
+-- and so the word that the listing prints of a packet's verdict: where it now is SHORT or LONG, 1.5 prints SIZE, and the same word everywhere else
 pub word-as-in-1-5 : (v : Verdict) → lettersIn15 (asOneSize v .number) ≡ cond (ofSize v) (ascii "SIZE") (letters (v .number))
 word-as-in-1-5 v =
     by-test (ofSize v)
-    (λ e. ap (λ (b : Bool). lettersIn15 (cond b (refusal 14 0) v .number)) e ∙ name-as-in-1-5 0 .0 ∙ sym (ap (λ (b : Bool). cond b (ascii "SIZE") (letters (v .number))) e))
+    (λ e. ap (λ (b : Bool). lettersIn15 (cond b oneSize v .number)) e ∙ name-as-in-1-5 0 .0 ∙ sym (ap (λ (b : Bool). cond b (ascii "SIZE") (letters (v .number))) e))
     (λ e.
-    ap (λ (b : Bool). lettersIn15 (cond b (refusal 14 0) v .number)) e
+    ap (λ (b : Bool). lettersIn15 (cond b oneSize v .number)) e
     ∙ name-as-in-1-5 (v .number) .2 (λ q. false≢true (sym e ∙ ap (λ (n : ℕ). ofSize (refusal n 0)) q)) (λ q. false≢true (sym e ∙ ap (λ (n : ℕ). ofSize (refusal n 0)) q))
     ∙ sym (ap (λ (b : Bool). cond b (ascii "SIZE") (letters (v .number))) e))

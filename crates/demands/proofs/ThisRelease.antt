@@ -33,9 +33,9 @@ module _ (rs : List Row) where
   unfolding judgedUnit timelyBy timely
   unit-now by u = refl
 
-  pub stands-now : (u : List ℕ) (k : ℕ) → standsBy in16 rs u k ≡ objectPlace rs u k
+  place-now : (u : List ℕ) (k : ℕ) → standsBy in16 rs u k ≡ objectPlace rs u k
   unfolding objectPlace timelyBy timely
-  stands-now u k = refl
+  place-now u k = refl
 
   pub under-now : (c : ℕ) (u : List ℕ) → underBy in16 rs c u ≡ judgedUnder rs c u
   unfolding judgedUnder judgedUnit timelyBy timely
@@ -45,15 +45,15 @@ module _ (rs : List Row) where
   unfolding judgedContent judgedUnder judgedUnit timelyBy timely
   content-now p = refl
 
-  pub packet-now : (p : List ℕ) → packetBy in16 rs p ≡ judgedPacket rs p
+  packet-now : (p : List ℕ) → packetBy in16 rs p ≡ judgedPacket rs p
   unfolding judgedPacket judgedContent judgedUnder judgedUnit timelyBy timely
   packet-now p = refl
 
-  pub writer-now : (out : List ℕ) (h : Header) (l : ℕ) → writerBy in16 rs out h l ≡ packetVerdict rs out h l
+  writer-now : (out : List ℕ) (h : Header) (l : ℕ) → writerBy in16 rs out h l ≡ packetVerdict rs out h l
   unfolding packetVerdict judgedUnder judgedUnit timelyBy timely
   writer-now out h l = refl
 
-  pub begun-now : (x : Exchanges) (c : ℕ) (out : List ℕ) (d : Draft) (l : ℕ) → begunBy in16 rs x c out d l ≡ begunVerdict rs x c out d l
+  begun-now : (x : Exchanges) (c : ℕ) (out : List ℕ) (d : Draft) (l : ℕ) → begunBy in16 rs x c out d l ≡ begunVerdict rs x c out d l
   unfolding begunVerdict packetVerdict judgedUnder judgedUnit timelyBy timely
   begun-now x c out d l = refl
 
@@ -65,11 +65,11 @@ module _ (rs : List Row) where
   unfolding objectVerdict writeVerdict newTimelyBy isTimely
   object-in-now out l k f d = refl
 
-  pub written-now : (out : List ℕ) (h : Header) (l : ℕ) → writtenAs out h l (writerBy in16 rs out h l) ≡ writtenPacket rs out h l
+  written-now : (out : List ℕ) (h : Header) (l : ℕ) → writtenAs out h l (writerBy in16 rs out h l) ≡ writtenPacket rs out h l
   unfolding writtenPacket
   written-now out h l = ap (writtenAs out h l) (writer-now out h l)
 
-  pub begins-now : (x : Exchanges) (c : ℕ) (out : List ℕ) (d : Draft) (l : ℕ)
+  begins-now : (x : Exchanges) (c : ℕ) (out : List ℕ) (d : Draft) (l : ℕ)
       → (begunAs x c d l (begunBy in16 rs x c out d l) ≡ begun rs x c out d l)
       × (begunOutputAs x c out d l (begunBy in16 rs x c out d l) (writerBy in16 rs out (headed x c d (found x c .serial)) l) ≡ begunOutput rs x c out d l)
   unfolding begun begunOutput writtenPacket
@@ -82,7 +82,7 @@ module _ (rs : List Row) where
   unfolding dueTo
   due-now p = ap (dueAs p) (content-now p)
 
-  pub reply-now : (p : List ℕ) (t : Label) (out : List ℕ) → replyBy in16 rs p t out ≡ replyVerdict rs p t out
+  reply-now : (p : List ℕ) (t : Label) (out : List ℕ) → replyBy in16 rs p t out ≡ replyVerdict rs p t out
   unfolding replyVerdict
   reply-now p t out = ap (replyAs p out (allowed (judged t))) (due-now p)
 
@@ -91,7 +91,7 @@ module _ (rs : List Row) where
   unfolding answered writtenReply
   replied-now p t out = (λ i. answerAs (reply-now p t out i) (due-now p i), λ i. writtenReplyAs p t out (reply-now p t out i) (due-now p i))
 
-  pub taken-now : (x : Exchanges) (p : List ℕ) → takenBy in16 rs x p ≡ taken rs x p
+  taken-now : (x : Exchanges) (p : List ℕ) → takenBy in16 rs x p ≡ taken rs x p
   unfolding taken roleOf
   taken-now x p = λ i. takeAs x p (isGood (inOrder (frameTests 1024 p) good)) (content-now p i) (packet-now p i)
 
@@ -118,7 +118,7 @@ pub this-release : ((by : Carrier) (u : List ℕ) → unitBy in16 rows by u ≡ 
     × ((x : Exchanges) (p : List ℕ) → takenBy in16 rows x p ≡ taken rows x p)
 this-release = (
   unit-now rows,
-  stands-now rows,
+  place-now rows,
   under-now rows,
   λ p. (content-now rows p, packet-now rows p),
   read-now rows,

@@ -1,5 +1,5 @@
--- How release 1.6 differs from 1.5 (document 02, Q-4: "they cannot tell a cut unit from one with padding. Split it"). What 1.5 said is `asOneSize` of what is said now,
--- beside the tests of a unit's size; here are its names. Assumes nothing.
+-- How release 1.6 differs from 1.5 (document 02, Q-4: "they cannot tell a cut unit from one with padding. Split it"). What 1.5 said is `asOneSize` of what is said now
+-- (unit/specs/Units.antt); here are its names. Assumes nothing.
 use Prim.Native.Nat.{ℕ}
 use mathlib.Core.Bool.{cond}
 use mathlib.Core.List.{List, [], _∷_}

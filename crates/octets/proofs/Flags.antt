@@ -1,5 +1,5 @@
 -- What a test tells whose flag a callee answered, and what both ways of a test come to. Assumes nothing.
-use mathlib.Core.Bool.{Bool, true, false, not}
+use mathlib.Core.Bool.{Bool, true, false, not, cond}
 use mathlib.Core.Path.{_≡_, refl, sym, _∙_}
 use borrow.Author.Tests.{not-true, not-false}
 
@@ -14,6 +14,11 @@ on {r} e t = sym e ∙ not-false r t
 pub by-test : {A : Type 0} (b : Bool) → (b ≡ true → A) → (b ≡ false → A) → A
 by-test true t f = t refl
 by-test false t f = f refl
+
+-- what follows from either of two values
+pub of-either : {A B : Type 0} (f : A → B) (b : Bool) (x y : A) → f (cond b x y) ≡ cond b (f x) (f y)
+of-either f true x y = refl
+of-either f false x y = refl
 
 -- two tests of which each passes where the other does
 pub both-or-none : (a b : Bool) → (a ≡ true → b ≡ true) → (b ≡ true → a ≡ true) → a ≡ b

@@ -18,7 +18,7 @@ use Rattle.output.specs.Writing.{roomTests}
 unfoldable pub objectVerdict : List Row → List ℕ → ℕ → ℕ → Fields → List ℕ → Verdict
 objectVerdict rs out l k f d = inOrder (roomTests out l 27) (writeVerdict rs (part out 27 (27 + l)) k f d)
 
--- the unit w put back where it stands
+-- the unit w put where it stands, if length and room allow
 abbrev pub unitPut : List ℕ → ℕ → List ℕ → List ℕ
 unitPut out l w = cond (isGood (inOrder (roomTests out l 27) good)) (putAt out 27 w) out
 

@@ -7,6 +7,7 @@ pub mod Under
 pub mod Placing
 pub mod Good
 pub mod Cuts
+pub mod Ends
 pub mod Split
 pub mod Lengths
 pub mod Examples
