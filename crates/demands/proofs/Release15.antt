@@ -35,7 +35,8 @@ use Rattle.unit.specs.declared.Carrier.the-variants.{Any, By}
 use Rattle.unit.specs.Objects.{typeOf, timely, objectAt}
 use Rattle.unit.specs.Places.{numberTest, placedAfter, objectPlace}
 use Rattle.unit.specs.Units.{rowOf, timeTest, unitTests, isKept, keptTests, isCommand, judgedUnit, judgedUnder, oneSize, ofSize, asOneSize}
-use Rattle.unit.proofs.Split.{order-was, unit-was, of-size-refused}
+use Rattle.unit.proofs.Sizes.{of-size-refused}
+use Rattle.unit.proofs.Split.{order-was, unit-was}
 use Rattle.verdict.specs.declared.Verdict.{Verdict}
 use Rattle.verdict.specs.declared.Part.{Part}
 use Rattle.verdict.specs.Orders.{_or-else_, inOrder, refusal, good, isGood, partBy, noPart}

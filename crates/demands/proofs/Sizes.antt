@@ -24,7 +24,8 @@ use Rattle.unit.proofs.Cuts as cuts
 use Rattle.unit.proofs.Cuts.{CutAt}
 use Rattle.unit.proofs.Ends.{ShortAt, cut-short, appended-long}
 use Rattle.unit.proofs.Good.{shape-good, unit-good}
-use Rattle.unit.proofs.Split.{of-size-refused, of-size-other, split-exactly}
+use Rattle.unit.proofs.Sizes.{of-size-refused, of-size-other}
+use Rattle.unit.proofs.Split.{split-exactly}
 use Rattle.unit.proofs.Under.{judged-under}
 use Rattle.verdict.specs.declared.Verdict.{Verdict}
 use Rattle.verdict.specs.Orders.{_or-else_, Held, inOrder, refusal, good, isGood}
