@@ -385,8 +385,8 @@ trawnosz_answer trawnosz_answer_to(const uint8_t *packet, size_t packet_length, 
 
 /* ---- Units and objects; objects are numbered from 0. Each call judges the whole unit, so that reading n objects one by one
  * judges it n times. A unit that ends before its last object does is SHORT, and its place the number of the first object that
- * is not whole, be it cut or wholly absent: the objects before it are whole, though nothing was yet said of their labels. One
- * with bytes behind its last object is LONG. ---- */
+ * is not whole, be it cut or wholly absent: the objects before it are whole, though nothing was yet said of their labels. A
+ * unit of type 26 without its K is SHORT at object 0. One with bytes behind its last object is LONG, place 0. ---- */
 
 /* The judge of a unit alone: UNIT, TYPE, COUNT, SHORT, LONG, TIME. */
 trawnosz_verdict trawnosz_judge_unit(const uint8_t *unit, size_t unit_length);

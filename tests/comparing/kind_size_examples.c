@@ -196,7 +196,7 @@ static void try_every_padding(struct trial *t, const struct made_type *type)
         expect_verdict(t, both_judge_unit(t, unit, size + many[i]), IND_LONG, 0);
 }
 
-/* Both have a name, and the numbers beside LONG and CENTRE still have none. */
+/* Both have a name, and 26, 27, 29 and 31 still have none. */
 static void try_names_of_both(struct trial *t)
 {
     static const char *const names[32] = {[14] = "SHORT", [26] = "", [27] = "", [28] = "LONG", [29] = "", [31] = ""};

@@ -1,4 +1,4 @@
--- The cases of document 02's Q-4, too little or too much, as rows of the one table of checked examples (Checked). Assumes nothing.
+-- Cases of document 02's Q-4, too little or too much, as rows of the one table of checked examples (Checked). Assumes nothing.
 use Prim.Native.Nat.{ℕ}
 use mathlib.Core.List.{List, [], _∷_, _++_, map}
 use mathlib.Core.Path.{_≡_, refl}
@@ -52,24 +52,24 @@ asBad = 1 ∷ []
 
 abbrev pub checked-sizes : List (List ℕ × List ℕ)
 checked-sizes =
-    -- "Type 1, n 3: 15 bytes of objects SHORT 1, 20 bytes SHORT 2, 31 bytes LONG 0"
+    -- Type 1, n 3: 15 bytes of objects SHORT 1, 20 bytes SHORT 2, 31 bytes LONG 0
     (alone (sized 1 3 15), of (refusal SHORT 1))
     ∷ (alone (sized 1 3 20), of (refusal SHORT 2))
     ∷ (alone (sized 1 3 30), of good)
     ∷ (alone (sized 1 3 31), of (refusal LONG 0))
-    -- "`1A 01`, `1A 01 05 00`, `1C 01`: SHORT 0. `1A 01 00 00`: LONG 0"
+    -- `1A 01`, `1A 01 05 00`, `1C 01`: SHORT 0. `1A 01 00 00`: LONG 0
     ∷ (alone (0x1A ∷ 0x01 ∷ []), of (refusal SHORT 0))
     ∷ (alone (0x1A ∷ 0x01 ∷ 0x05 ∷ 0x00 ∷ []), of (refusal SHORT 0))
     ∷ (alone (0x1C ∷ 0x01 ∷ []), of (refusal SHORT 0))
     ∷ (alone (0x1A ∷ 0x01 ∷ 0x00 ∷ 0x00 ∷ []), of (refusal LONG 0))
-    -- "Type 2, n 2, 91 bytes of objects: SHORT 1. `3E 02` and 7 bytes: SHORT 1"
+    -- Type 2, n 2, 91 bytes of objects: SHORT 1. `3E 02` and 7 bytes: SHORT 1
     ∷ (alone (sized 2 2 91), of (refusal SHORT 1))
     ∷ (alone (sized 0x3E 2 7), of (refusal SHORT 1))
-    -- "A bad label in object 0 with object 1 absent: SHORT 1": both before TIME
+    -- a bad label in object 0 with object 1 absent is SHORT 1, since both stand before TIME
     ∷ (alone (1 ∷ 2 ∷ bad-state), of (refusal SHORT 1))
     ∷ (alone (1 ∷ 2 ∷ bad-state ++ bad-state), of (refusal TIME 1))
     ∷ (alone (1 ∷ 1 ∷ bad-state ++ (0 ∷ [])), of (refusal LONG 0))
-    -- "`18 7F`: SHORT 0", behind COUNT
+    -- `18 7F` is SHORT 0, behind COUNT
     ∷ (alone (0x18 ∷ 0x7F ∷ []), of (refusal SHORT 0))
     ∷ (alone (0x18 ∷ 0x80 ∷ []), of (refusal COUNT 0))
     -- 1.5 said SIZE, 14 at place 0, of one that is cut and of one with a byte more
@@ -81,7 +81,7 @@ checked-sizes =
     ∷ (packet (carrying 1 2 (sized 1 3 31)), of (refusal LONG 0))
     ∷ (reply (carrying 1 2 (sized 1 3 15)), of good ++ (6 ∷ 0 ∷ 0 ∷ 6 ∷ []))
     ∷ (reply (carrying 1 2 (sized 1 3 31)), of good ++ (6 ∷ 0 ∷ 0 ∷ 6 ∷ []))
-    -- and of a packet that is an answer no reply is due, and it is a bad one
+    -- no reply is due to an answer, and it is a bad one
     ∷ (reply (carrying 1 5 (sized 1 3 31)), none)
     ∷ (heard (carrying 1 5 (sized 1 3 31)), asBad)
     ∷ (heard (carrying 1 5 (sized 1 3 15)), asBad)

@@ -27,7 +27,7 @@ use Rattle.demands.specs.Rules.{in13, in14, unitBy, underBy, contentBy, 
 use Rattle.demands.specs.Release13.{ObjectWithoutTime, WithoutTime, NewWithoutTime, Newly, Narrowed}
 use Rattle.demands.proofs.Narrowed.{over, unit-narrowed, under-narrowed, content-narrowed, writer-narrowed, begin-narrowed, object-narrowed, unit-spares, packet-spares}
 
--- DEMAND 2 and document 02's "Going back is also a release": what release 1.4 answers otherwise than 1.3. A label is judged as before unless it is six zeros
+-- DEMAND 2 and the tender's "going back is also a release": what release 1.4 answers otherwise than 1.3. A label is judged as before unless it is six zeros
 pub label-as-in-1-3 : (l : Label) → (isNoTime l ≡ false → judged l ≡ judgedIn13 l) × (isNoTime l ≡ true → (judgedIn13 l ≡ Bad) × (judged l ≡ NoTime))
 label-as-in-1-3 l = (as-in-13 l, λ z. (no-time-in-13 l z, no-time-judged l z))
 

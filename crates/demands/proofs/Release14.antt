@@ -79,7 +79,7 @@ module _ (c : ℕ) (u : List ℕ) where
       same : isKept c ≡ true → underBy in15 rows c u ≡ underBy in16 rows c u
       same e = simp e
 
-  -- DEMAND 2 and document 02's "Going back is also a release": under 3 and 6 release 1.4 says UNIT of whatever is carried, and of every other unit what 1.5 says
+  -- DEMAND 2 and the tender's "going back is also a release": under 3 and 6 release 1.4 says UNIT of whatever is carried, and of every other unit what 1.5 says
   pub unit-under-as-in-1-4 : underBy in14 rows c u ≡ cond (carriesSome c (length u)) (refusal UNIT 0) (underBy in15 rows c u)
   unit-under-as-in-1-4 =
       by-test (isKept c)

@@ -61,7 +61,7 @@ same-on-good a b v = ap (λ (t : Bool). cond t a b) (good-as-now v)
 either : {A : Type 0} (f : Verdict → A) (v : Verdict) → f (asOneSize v) ≡ cond (ofSize v) (f oneSize) (f v)
 either f v = of-either f (ofSize v) oneSize v
 
--- DEMAND 2 and document 02's "Going back is also a release": a unit, alone and whatever carries it, and under a command
+-- DEMAND 2 and the tender's "going back is also a release": a unit, alone and whatever carries it, and under a command
 pub unit-as-in-1-5 : (by : Carrier) (u : List ℕ) → unitBy in15 rows by u ≡ asOneSize (judgedUnit rows by u)
 unfolding timelyBy timely
 unit-as-in-1-5 by u = unit-was rows by u
@@ -76,7 +76,7 @@ unit-under-as-in-1-5 c u =
     go true = in-other-words asOneSize (keptTests u) good
     go false = unit-as-in-1-5 (By c) u
 
--- where an object stands, and so what is read of it
+-- where an object stands
 pub object-as-in-1-5 : (u : List ℕ) (k : ℕ) → standsBy in15 rows u k ≡ cond (ofSize (objectPlace rows u k .verdict)) (noPart oneSize) (objectPlace rows u k)
 unfolding objectPlace placedAfter partBy timelyBy timely
 object-as-in-1-5 u k =

@@ -93,7 +93,8 @@ module _ (p : List ℕ) (e : ofSize (judgedPacket rows p) ≡ true) where
   late : lateRefused rows p ≡ true
   late = simp (framed, content-refused)
 
-  pub later-by-order : (dueTo rows p ≡ toRefused (commandOf p))
+  pub later-by-order : (lateRefused rows p ≡ true)
+      × (dueTo rows p ≡ toRefused (commandOf p))
       × ((x : Exchanges) → commandOf p ≡ 5 → taken rows x p ≡ answered x (headerOf p .source) (headerOf p .serial) BadAnswer)
   unfolding dueTo
-  later-by-order = (simp content-refused, λ x c. taken-bad-answer rows x p late c)
+  later-by-order = (late, simp content-refused, λ x c. taken-bad-answer rows x p late c)

@@ -1,4 +1,4 @@
--- The rules of a release, for what going back means (document 02: "Going back is also a release"): each order that Q-1, Q-2 or Q-4 moved, over the rules z of a release. At
+-- The rules of a release, for what going back means (the tender: "going back is also a release"): each order that Q-1, Q-2 or Q-4 moved, over the rules z of a release. At
 -- `in16` it is this release's, by computation (`this-release`), at the others that of an earlier one; what is answered, written and stored is each crate's own definition over what its order says.
 -- Assumes nothing.
 use Prim.Native.Nat.{ℕ, suc, _+_}
@@ -77,11 +77,11 @@ timeTestBy j r u =
     }
 
 -- the judge of a unit, and of one under a command, where a confirm's bytes are judged by their own tests
-abbrev pub unitTestsBy : Rules → List Row → Carrier → List ℕ → List Test
-unitTestsBy z rs by u = shapeBy (z .sizes) rs by u ++ (timeTestBy (z .labels) (rowOf rs u) u ∷ [])
+abbrev pub testsBy : Rules → List Row → Carrier → List ℕ → List Test
+testsBy z rs by u = shapeBy (z .sizes) rs by u ++ (timeTestBy (z .labels) (rowOf rs u) u ∷ [])
 
 abbrev pub unitBy : Rules → List Row → Carrier → List ℕ → Verdict
-unitBy z rs by u = inOrder (unitTestsBy z rs by u) good
+unitBy z rs by u = inOrder (testsBy z rs by u) good
 
 abbrev pub underBy : Rules → List Row → ℕ → List ℕ → Verdict
 underBy z rs c u =
@@ -111,7 +111,7 @@ begunBy z rs x c out d l = inOrder (beginTests x c) (inOrder (openingTests out d
 
 -- where an object stands
 abbrev pub standsBy : Rules → List Row → List ℕ → ℕ → Part
-standsBy z rs u k = placedAfter (unitTestsBy z rs Any u) (rowOf rs u) u k
+standsBy z rs u k = placedAfter (testsBy z rs Any u) (rowOf rs u) u k
 
 -- the object writer
 unfoldable pub newTimelyBy : Rule → Row → Fields → Bool
