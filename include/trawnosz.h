@@ -26,7 +26,7 @@ extern "C" {
 #endif
 
 /* The release that this header is of; trawnosz_release tells that of the archive. */
-#define TRAWNOSZ_RELEASE "1.6"
+#define TRAWNOSZ_RELEASE "1.7"
 
 /* Sizes and limits. */
 enum {

@@ -248,6 +248,7 @@ void try_examples(struct trial *t);
 void try_label_examples(struct trial *t);
 void try_confirm_examples(struct trial *t);
 void try_size_examples(struct trial *t);
+void try_sum_examples(struct trial *t);
 void try_exchange_examples(struct trial *t);
 void try_streams(struct trial *t);
 void try_noise(struct trial *t);

@@ -1,6 +1,6 @@
 /* The documents' own examples, with the answers that they state; those of request Q-1's labels stand in kind_label_examples.c,
  * those of request Q-2's confirms in kind_confirm_examples.c, those of request Q-4's sizes in kind_size_examples.c, those of
- * exchanges in kind_exchange_examples.c. */
+ * request Q-5's sums in kind_sum_examples.c, those of exchanges in kind_exchange_examples.c. */
 #include "comparing.h"
 
 #include <string.h>
@@ -197,6 +197,7 @@ void try_examples(struct trial *t)
     try_label_examples(t);
     try_confirm_examples(t);
     try_size_examples(t);
+    try_sum_examples(t);
     try_exchange_examples(t);
     try_table_examples(t);
     try_reply_examples(t);

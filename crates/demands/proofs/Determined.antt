@@ -11,6 +11,7 @@ use Rattle.octets.proofs.four_bytes.Reads as octets-four-bytes
 use Rattle.octets.proofs.signed.Reads as octets-signed
 use Rattle.octets.proofs.bits.Reads as octets-bits
 use Rattle.octets.proofs.sum.Reads as octets-sum
+use Rattle.octets.proofs.added.Reads as octets-added
 use Rattle.verdict.proofs.Verdict.good.Reads as verdict-verdict-good
 use Rattle.verdict.proofs.Verdict.refused.Reads as verdict-verdict-refused
 use Rattle.verdict.proofs.Verdict.is_good.Reads as verdict-verdict-is-good
@@ -96,6 +97,9 @@ octets-bits-determined κs x r s a b = a ∙ sym b
 
 pub octets-sum-determined : (κs : _) (x : _) (r s : _) → octets-sum.Post κs x r x → octets-sum.Post κs x s x → r ≡ s
 octets-sum-determined κs x r s a b = a ∙ sym b
+
+pub octets-added-determined : (κs : _) (x : _) (r s : _) → octets-added.Post κs x r x → octets-added.Post κs x s x → r ≡ s
+octets-added-determined κs x r s a b = a .0 ∙ sym (b .0)
 
 pub verdict-verdict-good-determined : (κs : _) (x : _) (r s : _) → verdict-verdict-good.Post κs x r x → verdict-verdict-good.Post κs x s x → r ≡ s
 verdict-verdict-good-determined κs x r s a b = a ∙ sym b

@@ -3,12 +3,14 @@ pub mod Lent
 pub mod CheckedLabels
 pub mod CheckedConfirms
 pub mod CheckedSizes
+pub mod CheckedSums
 pub mod Checked
 pub mod Demand1
 pub mod Demand2
 pub mod NoTime
 pub mod Confirms
 pub mod Sizes
+pub mod Sums
 pub mod Demand2Exchanges
 pub mod BoxLogs
 pub mod AlwaysEnds

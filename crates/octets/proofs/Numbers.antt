@@ -83,9 +83,12 @@ octets-take (suc n) [] h i = h i
 octets-take (suc n) (b ∷ s) h zero = h zero
 octets-take (suc n) (b ∷ s) h (suc i) = octets-take n s (λ j. h (suc j)) i
 
+pub octets-drop : (s : List ℕ) (at : ℕ) → Octets s → Octets (drop at s)
+octets-drop s at h i = subst (λ (b : ℕ). b < 256) (sym (getD-drop at s i 0)) (h (at + i))
+
 -- a part of a row of bytes is one too
 pub octets-part : (s : List ℕ) (at n : ℕ) → Octets s → Octets (take n (drop at s))
-octets-part s at n h = octets-take n (drop at s) (λ i. subst (λ (b : ℕ). b < 256) (sym (getD-drop at s i 0)) (h (at + i)))
+octets-part s at n h = octets-take n (drop at s) (octets-drop s at h)
 
 -- written and read back: the same number
 pub bytes-low : (n x : ℕ) → x < 256 ^ n → lowFirst (bytesOf n x) ≡ x

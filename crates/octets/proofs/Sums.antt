@@ -1,11 +1,17 @@
--- The laws of the sum: one byte more, two rows one after the other, and the loop that adds. Assumes nothing.
-use Prim.Native.Nat.{ℕ, _+_, _%_, _≤_, _<_}
+-- The laws of the sum: two rows one after the other, the bound of what is added, and the loop that adds. Assumes nothing.
+use Prim.Native.Nat.{ℕ, zero, suc, _+_, _*_, _^_, _≤_, _<_}
 use native.Mathlib.Numerals.{add-one}
 use native.Mathlib.Omega.{arith}
+use borrow.Author.Needs.{needs}
 use mathlib.Core.Path.{_≡_, sym, ap, _∙_}
 use mathlib.Core.List.{List, [], _∷_, _++_}
-use lib.ListN.{length, getD, take, drop}
-use lib.Seq.{drop-cons, drop-length, take-all}
+use lib.Dec.{T, ltb}
+use lib.ListN.{length, getD, take}
+use lib.Seq.{take-suc, take-all}
+use mir.Syntax.{Width}
+use mir.Val.{Fits, bits}
+use mir.Facts.{fits-below}
+use Rattle.octets.specs.Numbers.{Octets}
 use Rattle.octets.specs.Sums.{total}
 
 pub total-append : (s t : List ℕ) → total (s ++ t) ≡ total s + total t
@@ -13,35 +19,51 @@ unfolding total
 total-append [] t = omega arith
 total-append (b ∷ s) t = omega (arith, total-append s t)
 
--- a turn of the loop that adds: the byte at its place, and what is left
-pub total-drop : (s : List ℕ) (i : ℕ) → i < length s → total (drop i s) ≡ getD s i 0 + total (drop (i + 1) s)
+-- so many bytes of at most 255
+pub most : (n : ℕ) (s : List ℕ) → Octets s → total (take n s) ≤ 255 * n
 unfolding total
-total-drop s i h = rw (add-one i, drop-cons s i 0)
+most zero s bytes = omega arith
+most (suc n) [] bytes = omega arith
+most (suc n) (b ∷ s) bytes = omega (arith, bytes 0, most n s (λ i. bytes (suc i)))
+
+-- Document 02, Q-5: "At most 1,049 bytes of at most 255 are added, 267,495 in all."
+pub in-all : (n : ℕ) (s : List ℕ) → Octets s → n ≤ 1049 → total (take n s) ≤ 267495
+in-all n s bytes h = omega (arith, most n s bytes)
 
 -- a row of at most so many bytes is its own beginning
-pub short : (s : List ℕ) (n r : ℕ) → length s ≤ n → r ≡ total s % 256 → r ≡ total (take n s) % 256
-short s n r h e = e ∙ ap (λ (t : List ℕ). total t % 256) (sym (take-all n s h))
+pub short : (s : List ℕ) (n r : ℕ) → length s ≤ n → r ≡ total s → r ≡ total (take n s)
+short s n r h e = e ∙ ap total (sym (take-all n s h))
 
--- the loop that adds, byte by byte: what was added and what is left make the sum
+-- the loop that adds, byte by byte: what is added are the bytes before its place, within the bound
 pub record Added (s : List ℕ) (sum i : ℕ) : Type 0 where
-  pub few : i ≤ length s
-  pub small : sum < 256
-  pub same : (sum + total (drop i s)) % 256 ≡ total s % 256
+  pub there : i ≤ length s
+  pub same : sum ≡ total (take i s)
+  pub bound : sum ≤ 267495
+
+-- nothing is lost on the way in a number that is wide enough for all
+pub wide-enough : {w : Width} {s : List ℕ} {sum i : ℕ} → Added s sum i → T (ltb 267495 (2 ^ bits w)) → Fits w sum
+wide-enough a wide = fits-below wide (a .bound)
 
 module _ (s : List ℕ) where
   pub none-added : Added s 0 0
-  none-added = record { few = omega arith; small = omega arith; same = omega arith }
+  unfolding total
+  none-added = record { there = omega arith; same = omega arith; bound = omega arith }
 
   module _ (sum i : ℕ) (a : Added s sum i) where
-    pub one-added : (next : ℕ) → i < length s → next ≡ (sum + getD s i 0) % 256 → Added s next (i + 1)
-    one-added next h e =
-        record { few = omega arith; small = omega (arith, e); same = omega (arith, e, total-drop s i h, a .same) }
+    module _ (bytes : Octets s) (few : length s ≤ 1049) (h : i < length s) where
+      with-next : sum + getD s i 0 ≡ total (take (i + 1) s)
+      unfolding total
+      with-next = omega (arith, a .same, total-append (take i s) (getD s i 0 ∷ []), ap total (take-suc s i 0 h), ap (λ (n : ℕ). total (take n s)) (add-one i))
 
-    pub all-added : length s ≤ i → sum ≡ total s % 256
-    unfolding total
-    all-added h =
-        let end : i ≡ length s = omega (arith, a .few) in
-        let none : total (drop i s) ≡ 0 = ap (λ (k : ℕ). total (drop k s)) end ∙ ap total (drop-length s) in
-        omega (arith, none, a .small, a .same)
+      pub one-added : Added s (sum + getD s i 0) (i + 1)
+      one-added =
+          record {
+            there = omega arith;
+            same = with-next;
+            bound = omega (arith, with-next, in-all (i + 1) s bytes (omega arith));
+          }
 
-pub ruleset adding = (none-added, one-added, all-added)
+    pub all-added : length s ≤ i → sum ≡ total s
+    all-added h = a .same ∙ ap total (take-all i s h)
+
+pub ruleset adding = (needs, none-added, all-added)

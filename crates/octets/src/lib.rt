@@ -1,8 +1,8 @@
 // Bytes as the standard counts them: numbers low byte first, parts, bytes put into a lent row, and the sum.
 ghost use mathlib.Core.Path.{_≡_};
 ghost use denote.Ref.{ptr};
-ghost use Prim.Native.Nat.{_+_, _*_, _<_, _%_};
-ghost use lib.ListN.{getD, take, drop};
+ghost use Prim.Native.Nat.{_+_, _*_, _<_, _≤_, _%_};
+ghost use lib.ListN.{length, getD, take, drop};
 ghost use Rattle.octets.specs.Numbers.{Octets, lowFirst, bytesOf, signedOf, bitsOf};
 ghost use Rattle.octets.specs.Parts.{part, partPlace, putAt, oneByOne};
 ghost use Rattle.octets.specs.Searches.{same};
@@ -168,23 +168,34 @@ pub fn put(out: &mut [u8], at: usize, bytes: &[u8])
     }
 }
 
-// The sum modulo 256 of at most the first 1,049 bytes.
+// The sum of at most the first 1,049 bytes: all are added up, then what is above eight bits is dropped.
 pub fn sum(s: &[u8]) -> u8
     ensures { λ r. ⌜ r ≡ total (take 1049 (now (s .entry))) % 256 ⌝ }
 {
-    if 1049 < s.len() {
-        return sum_all(&s[0..1049]);
-    }
-    sum_all(s)
+    (added(s) % 256) as u8
 }
 
-fn sum_all(s: &[u8]) -> u8
-    ensures { λ r. ⌜ r ≡ total (now (s .entry)) % 256 ⌝ }
+// At most the first 1,049 bytes added up and nothing dropped, so that two rows can be added before the drop.
+pub fn added(s: &[u8]) -> u32
+    ensures { λ r. ⌜ r ≡ total (take 1049 (now (s .entry))) ⌝ }
+    ensures { λ r. ⌜ r ≤ 267495 ⌝ }
 {
-    let mut sum: u8 = 0;
+    if 1049 < s.len() {
+        return add_up(&s[0..1049]);
+    }
+    add_up(s)
+}
+
+// All of at most 1,049 bytes added up; nothing is lost on the way, since they make 267,495 at most.
+fn add_up(s: &[u8]) -> u32
+    requires { ⌜ length (now s) ≤ 1049 ⌝ }
+    ensures { λ r. ⌜ r ≡ total (now (s .entry)) ⌝ }
+    ensures { λ r. ⌜ r ≤ 267495 ⌝ }
+{
+    let mut sum: u32 = 0;
     let mut i: usize = 0;
     while i < s.len() {
-        sum = std::num::wrapping_add_u8(sum, s[i]);
+        sum = sum + (s[i] as u32);
         i = i + 1;
     }
     sum

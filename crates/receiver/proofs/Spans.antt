@@ -27,8 +27,8 @@ byte-back a b i r h e =
     let place : length a + (i - length a) ≡ i = omega arith in
     e ∙ sym (getD-append-add a b (i - length a) 0) ∙ ap (λ (k : ℕ). getD (a ++ b) k 0) place
 
--- the sum of the two, modulo 256, and of each so
-pub sum-over : (a b : List ℕ) (r x y : ℕ) → r ≡ (x + y) % 256 → x ≡ total a % 256 → y ≡ total b % 256 → r ≡ total (a ++ b) % 256
+-- both added up, then dropped
+pub sum-over : (a b : List ℕ) (r x y : ℕ) → r ≡ (x + y) % 256 → x ≡ total a → y ≡ total b → r ≡ total (a ++ b) % 256
 sum-over a b r x y e p q = omega (arith, total-append a b)
 
 -- the sum of a start's bytes, that lie in the first row or in both
@@ -56,15 +56,15 @@ parts-are k n a b front back p q =
     ∙ ap (λ (u : List ℕ). take n (drop k a) ++ u) (q ∙ ap (λ (m : ℕ). take m (drop (k - length a) b)) size)
     ∙ sym (span-over k n a b)
 
-pub sum-both : (l : ℕ) (a b front back : List ℕ) (from r x y : ℕ) → r ≡ (x + y) % 256 → x ≡ total (take 1049 front) % 256
-    → y ≡ total (take 1049 back) % 256 → front ≡ take (25 + l) (drop 2 a) → back ≡ take (25 + l - length front) (drop from b)
+pub sum-both : (l : ℕ) (a b front back : List ℕ) (from r x y : ℕ) → r ≡ (x + y) % 256 → x ≡ total (take 1049 front)
+    → y ≡ total (take 1049 back) → front ≡ take (25 + l) (drop 2 a) → back ≡ take (25 + l - length front) (drop from b)
     → from ≡ 2 - length a → l ≤ 1024 → r ≡ sumOf l (a ++ b)
 sum-both l a b front back from r x y e s t p q at few =
     let size : length front ≤ 25 + l = part-short (25 + l) front (drop 2 a) p in
     let size' : length back ≤ 25 + l - length front = part-short (25 + l - length front) back (drop from b) q in
     sum-over front back r x y e
-    (s ∙ ap (λ (u : List ℕ). total u % 256) (take-all 1049 front (omega arith)))
-    (t ∙ ap (λ (u : List ℕ). total u % 256) (take-all 1049 back (omega arith)))
+    (s ∙ ap total (take-all 1049 front (omega arith)))
+    (t ∙ ap total (take-all 1049 back (omega arith)))
     ∙ ap (λ (u : List ℕ). total u % 256)
     (parts-are 2 (25 + l) a b front back p (q ∙ ap (λ (k : ℕ). take (25 + l - length front) (drop k b)) at))
 

@@ -150,7 +150,7 @@ fn judge_frame(l: usize, a: &[u8], b: &[u8]) -> Standing
     Standing::Hit(Event::Packet(30 + l), 30 + l, 30 + l)
 }
 
-// The sum of bytes 3 to 27+L of the two.
+// The sum of bytes 3 to 27+L of the two: all are added up, then what is above eight bits is dropped.
 fn sum_of(l: usize, a: &[u8], b: &[u8]) -> u8
     requires { ⌜ l ≤ 1024 ⌝ }
     ensures { λ r. ⌜ r ≡ sumOf l (now (a .entry) ++ now (b .entry)) ⌝ }
@@ -161,7 +161,7 @@ fn sum_of(l: usize, a: &[u8], b: &[u8]) -> u8
     let front = rows::span(a, 2, 25 + l);
     let k = front.len();
     let back = rows::span(b, rows::less(2, a.len()), 25 + l - k);
-    std::num::wrapping_add_u8(octets::sum(front), octets::sum(back))
+    ((octets::added(front) + octets::added(back)) % 256) as u8
 }
 
 // The byte at a place of the two, 0 behind the end.

@@ -23,5 +23,6 @@ sum-of-spec =
     unasked
     unasked
     unasked
-    unasked
+    (λ c. search parts)
+    (λ c. search parts)
     (λ c. search parts))
