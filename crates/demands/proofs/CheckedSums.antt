@@ -2,7 +2,7 @@
 use Prim.Native.Nat.{ℕ, _%_}
 use mathlib.Core.List.{List, [], _∷_, _++_, map}
 use mathlib.Core.Path.{_≡_, refl}
-use lib.ListN.{set, take, drop, replicate}
+use lib.ListN.{take, drop, replicate}
 use Rattle.frame.specs.Frame.{frameTests, sumOf, unitLength, ended, summed}
 use Rattle.octets.specs.Numbers.{lowFirst}
 use Rattle.octets.specs.Sums.{total}
