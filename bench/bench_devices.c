@@ -57,4 +57,9 @@ void bench_devices(void)
     find("find_part: 64 systems, 1,024 parts, first part", length, table + 4 + 2 * 64);
     find("find_part: 64 systems, 1,024 parts, last part", length, table + length - 38);
     find("find_part: 64 systems, 1,024 parts, unlisted", length, unlisted);
+    length = make_table(64, 1600);
+    judge("judge_table: 64 systems, 1,600 parts", length);
+    find("find_part: 64 systems, 1,600 parts, first part", length, table + 4 + 2 * 64);
+    find("find_part: 64 systems, 1,600 parts, last part", length, table + length - 38);
+    find("find_part: 64 systems, 1,600 parts, unlisted", length, unlisted);
 }

@@ -26,7 +26,7 @@ extern "C" {
 #endif
 
 /* The release that this header is of; trawnosz_release tells that of the archive. */
-#define TRAWNOSZ_RELEASE "1.7"
+#define TRAWNOSZ_RELEASE "1.8"
 
 /* Sizes and limits. */
 enum {
@@ -37,7 +37,7 @@ enum {
     TRAWNOSZ_LONGEST_TIMEOUT = 10,   /* a timeout is 1 to 10 ticks */
     TRAWNOSZ_MOST_RESENDS = 9,       /* resends are 0 to 9 */
     TRAWNOSZ_MOST_SYSTEMS = 64,      /* of a device table */
-    TRAWNOSZ_MOST_PARTS = 1024,      /* of a device table */
+    TRAWNOSZ_MOST_PARTS = 1600,      /* of a device table; releases before 1.8 read 1,024, and refuse a larger one as MANY */
     TRAWNOSZ_CENTRES = 2,            /* the monitoring centres, by their numbers 0 and 1 */
     TRAWNOSZ_EXCHANGES = 16,         /* the places of an exchange table */
     TRAWNOSZ_CENTRE_EXCHANGES = 8,   /* those of one centre: 0 to 7 are centre 0's, 8 to 15 centre 1's */
@@ -474,7 +474,7 @@ trawnosz_ticked trawnosz_tick(trawnosz_exchanges table);
 /* ---- The device table. ---- */
 
 /* The judge of a device table: per section CUT of the count, MANY, CUT, then ORDER (for parts ORDER, ORPHAN) of each entry;
- * TAIL last. */
+ * TAIL last. A good one has 4 bytes, 2 for each system and 38 for each part: 60,932 at most. */
 trawnosz_table trawnosz_judge_table(const uint8_t *table, size_t table_length);
 
 /* Where the description of a part stands in a table. Refuses as the table's judge, then UNLISTED. */

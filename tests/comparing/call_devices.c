@@ -19,6 +19,23 @@ struct ind_devices both_judge_table(struct trial *t, const uint8_t *table, size_
     return mine;
 }
 
+static bool same_judgement(struct ind_devices a, struct ind_devices b)
+{
+    return a.verdict.refusal == b.verdict.refusal && a.verdict.place == b.verdict.place && a.systems == b.systems && a.parts == b.parts;
+}
+
+/* Request Q-7, of a table with the program before it beside: "a table of 1,024 parts or fewer .. the earlier program reads it. A
+ * larger one is refused by the earlier program as MANY". */
+struct ind_devices beside_earlier(struct trial *t, const uint8_t *table, size_t size)
+{
+    struct ind_devices now = both_judge_table(t, table, size);
+    struct ind_devices earlier = ind_judge_devices_earlier(table, size);
+    bool alike = same_judgement(now, earlier);
+    bool many = earlier.verdict.refusal == IND_MANY && earlier.verdict.place == 0;
+    expect(t, now.verdict.refusal ? alike || many : now.parts > IND_EARLIER_PARTS ? many : alike);
+    return now;
+}
+
 struct ind_span both_find_place(struct trial *t, const uint8_t *table, size_t size, const uint8_t key[7])
 {
     calling(t, "trawnosz_find_part");

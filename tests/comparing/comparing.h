@@ -135,6 +135,7 @@ struct ind_span both_release(struct trial *t, uint8_t *out, size_t room);
 size_t both_unit_length(struct trial *t, uint8_t type, size_t n);
 
 struct ind_devices both_judge_table(struct trial *t, const uint8_t *table, size_t size);
+struct ind_devices beside_earlier(struct trial *t, const uint8_t *table, size_t size);
 struct ind_span both_find_place(struct trial *t, const uint8_t *table, size_t size, const uint8_t key[7]);
 
 /* ---- make.c: labels, a time or no time, and bad ones; good units, what confirms and denies carry, and packets; spoil.c: one
@@ -249,6 +250,7 @@ void try_label_examples(struct trial *t);
 void try_confirm_examples(struct trial *t);
 void try_size_examples(struct trial *t);
 void try_sum_examples(struct trial *t);
+void try_part_examples(struct trial *t);
 void try_exchange_examples(struct trial *t);
 void try_streams(struct trial *t);
 void try_noise(struct trial *t);

@@ -4,7 +4,7 @@
 #include <stdlib.h>
 #include <string.h>
 
-enum { PART = 38, KEY = 7, TABLE_MOST = 2 + 80 * 2 + 2 + 1200 * PART };
+enum { PART = 38, KEY = 7, TABLE_MOST = 2 + 80 * 2 + 2 + 1810 * PART };
 
 /* A table in the making: its bytes, and where its parts begin. */
 static struct {
@@ -92,11 +92,12 @@ static void make_table(struct trial *t, size_t systems, size_t parts)
     make_parts(t, table.systems == 0 ? 0 : parts);
 }
 
-/* Mostly small tables, now and then one of 64 systems or up to 1,024 parts. */
+/* Mostly small tables, now and then one of 64 systems, or of up to 1,600 parts, around 1,024 among them. */
 static void make_any_table(struct trial *t)
 {
+    static const size_t full[] = {1600, 1025, 1024};
     size_t systems = chance(t, 10) ? 64 : below(t, chance(t, 20) ? 65 : 6);
-    size_t parts = chance(t, 2) ? 1024 : chance(t, 3) ? below(t, 1025) : below(t, 12);
+    size_t parts = chance(t, 2) ? full[below(t, 3)] : chance(t, 3) ? below(t, 1601) : below(t, 12);
     make_table(t, systems, parts);
 }
 
@@ -121,10 +122,10 @@ void try_good_devices(struct trial *t)
     uint8_t key[KEY];
     bool full = t->turn % 4096 == 64;
     if (full)
-        make_table(t, 64, 1024);
+        make_table(t, 64, 1600);
     else
         make_any_table(t);
-    both_judge_table(t, table.bytes, table.size);
+    beside_earlier(t, table.bytes, table.size);
     for (size_t i = 0; i < table.parts && (full || table.parts <= 16); i++)
         find_near(t, i);
     if (table.parts > 0) {
@@ -170,7 +171,7 @@ static void spoil_table(struct trial *t)
         spoil_count(t, table.bytes, table.systems, 64);
         break;
     case 1:
-        spoil_count(t, part_at(0) - 2, table.parts, 1024);
+        spoil_count(t, part_at(0) - 2, table.parts, chance(t, 50) ? 1600 : 1024);
         break;
     case 2:
         spoil_order(t, table.bytes + 2, table.systems, 2, 2);
@@ -204,7 +205,7 @@ static void cut_everywhere(struct trial *t)
 static void make_one_too_many(struct trial *t)
 {
     bool of_parts = chance(t, 30);
-    make_table(t, of_parts ? 3 : 65, of_parts ? 1025 : 2);
+    make_table(t, of_parts ? 3 : 65, of_parts ? 1601 : 2);
 }
 
 /* Bytes at random behind small counts. */
@@ -234,6 +235,6 @@ void try_spoiled_devices(struct trial *t)
         if (chance(t, 30) && table.size >= table.first_part)
             spoil_table(t);
     }
-    both_judge_table(t, table.bytes, table.size);
+    beside_earlier(t, table.bytes, table.size);
     both_find_place(t, table.bytes, table.size, key);
 }

@@ -1,6 +1,7 @@
 /* The documents' own examples, with the answers that they state; those of request Q-1's labels stand in kind_label_examples.c,
  * those of request Q-2's confirms in kind_confirm_examples.c, those of request Q-4's sizes in kind_size_examples.c, those of
- * request Q-5's sums in kind_sum_examples.c, those of exchanges in kind_exchange_examples.c. */
+ * request Q-5's sums in kind_sum_examples.c, those of request Q-7's parts in kind_part_examples.c, those of exchanges in
+ * kind_exchange_examples.c. */
 #include "comparing.h"
 
 #include <string.h>
@@ -163,7 +164,7 @@ static void try_table_examples(struct trial *t)
         size_t place;
     } tables[] = {
         {"", IND_CUT, 0}, {"020001020102", IND_ORDER, 1}, {"4100", IND_MANY, 0}, {"4000", IND_CUT, 0},
-        {"00000104", IND_MANY, 0}, {"0000000000", IND_TAIL, 0}, {"00000000", IND_GOOD, 0},
+        {"00004106", IND_MANY, 0}, {"0000000000", IND_TAIL, 0}, {"00000000", IND_GOOD, 0},
         {"0100010201000202030000000000000000000000000000000000000000000000000000000000000000000000", IND_ORPHAN, 1},
         {"010001020100020203", IND_CUT, 0},
     };
@@ -198,6 +199,7 @@ void try_examples(struct trial *t)
     try_confirm_examples(t);
     try_size_examples(t);
     try_sum_examples(t);
+    try_part_examples(t);
     try_exchange_examples(t);
     try_table_examples(t);
     try_reply_examples(t);

@@ -3,23 +3,22 @@
 
 #include <string.h>
 
-/* A section: the size of an entry, how many bytes of it give the order, and the most entries. */
+/* A section: the size of an entry, and how many bytes of it give the order. */
 struct section {
     size_t entry;
     size_t key;
-    size_t most;
 };
 
-static const struct section systems = {2, 2, IND_MOST_SYSTEMS};
-static const struct section parts = {38, 7, IND_MOST_PARTS};
+static const struct section systems = {2, 2};
+static const struct section parts = {38, 7};
 
 /* "per section CUT of the count, MANY, CUT"; the section's bytes stand behind its count. */
-static enum ind_refusal open_section(const struct section *kind, const uint8_t *table, size_t left, size_t *count)
+static enum ind_refusal open_section(const struct section *kind, const uint8_t *table, size_t left, size_t most, size_t *count)
 {
     if (left < 2)
         return IND_CUT;
     *count = ind_low_first(table);
-    if (*count > kind->most)
+    if (*count > most)
         return IND_MANY;
     if (left - 2 < *count * kind->entry)
         return IND_CUT;
@@ -44,7 +43,7 @@ static bool is_listed(const uint8_t *system, const uint8_t *list, size_t count)
 
 static struct ind_verdict judge_systems(const uint8_t *table, size_t size, size_t *count)
 {
-    enum ind_refusal refusal = open_section(&systems, table, size, count);
+    enum ind_refusal refusal = open_section(&systems, table, size, IND_MOST_SYSTEMS, count);
     if (refusal)
         return ind_refuse(refusal);
     for (size_t i = 0; i < *count; i++) {
@@ -55,9 +54,9 @@ static struct ind_verdict judge_systems(const uint8_t *table, size_t size, size_
 }
 
 /* "for parts ORDER then ORPHAN"; "parts numbered on after the systems". */
-static struct ind_verdict judge_parts(const uint8_t *table, size_t left, const uint8_t *list, size_t listed, size_t *count)
+static struct ind_verdict judge_parts(const uint8_t *table, size_t left, size_t most, const uint8_t *list, size_t listed, size_t *count)
 {
-    enum ind_refusal refusal = open_section(&parts, table, left, count);
+    enum ind_refusal refusal = open_section(&parts, table, left, most, count);
     if (refusal)
         return ind_refuse(refusal);
     for (size_t i = 0; i < *count; i++) {
@@ -69,7 +68,8 @@ static struct ind_verdict judge_parts(const uint8_t *table, size_t left, const u
     return ind_good();
 }
 
-struct ind_devices ind_judge_devices(const uint8_t *table, size_t size)
+/* The judge of a program that takes so many parts at most. */
+static struct ind_devices judge_up_to(const uint8_t *table, size_t size, size_t most_parts)
 {
     struct ind_devices refused = {ind_good(), 0, 0};
     struct ind_devices good = {ind_good(), 0, 0};
@@ -77,11 +77,22 @@ struct ind_devices ind_judge_devices(const uint8_t *table, size_t size)
     if (refused.verdict.refusal)
         return refused;
     size_t behind = 2 + good.systems * systems.entry;
-    refused.verdict = judge_parts(table + behind, size - behind, table + 2, good.systems, &good.parts);
+    refused.verdict = judge_parts(table + behind, size - behind, most_parts, table + 2, good.systems, &good.parts);
     if (refused.verdict.refusal)
         return refused;
     refused.verdict = ind_refuse(IND_TAIL);
     return size > behind + 2 + good.parts * parts.entry ? refused : good;
+}
+
+struct ind_devices ind_judge_devices(const uint8_t *table, size_t size)
+{
+    return judge_up_to(table, size, IND_MOST_PARTS);
+}
+
+/* "the earlier program reads it .. A larger one is refused by the earlier program as MANY" */
+struct ind_devices ind_judge_devices_earlier(const uint8_t *table, size_t size)
+{
+    return judge_up_to(table, size, IND_EARLIER_PARTS);
 }
 
 /* "Finding a part judges the table first, then hands back the description as a part of it, or UNLISTED". */

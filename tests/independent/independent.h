@@ -271,7 +271,9 @@ struct ind_devices {
     size_t parts;
 };
 
+/* The judge, and that of a program from before request Q-7. */
 struct ind_devices ind_judge_devices(const uint8_t *table, size_t size);
+struct ind_devices ind_judge_devices_earlier(const uint8_t *table, size_t size);
 struct ind_span ind_find_part(const uint8_t *table, size_t size, const uint8_t key[7]);
 
 #endif

@@ -1,5 +1,5 @@
-/* The documents' numbers, in one table: each as document 01 or, for a unit's end and for two centres, requests Q-4 and Q-11
- * of document 02 write it, and the few that the papers leave to us. */
+/* The documents' numbers, in one table: each as document 01 or, for a unit's end, for two centres and for more parts, requests
+ * Q-4, Q-11 and Q-7 of document 02 write it, and the few that the papers leave to us. */
 #ifndef NUMBERS_H
 #define NUMBERS_H
 
@@ -17,7 +17,8 @@ enum {
     IND_LONGEST_TIMEOUT = 10,   /* "Timeout T is 1 to 10 ticks" */
     IND_MOST_RESENDS = 9,       /* "resends R 0 to 9" */
     IND_MOST_SYSTEMS = 64,      /* "systems (at most 64; type, address)" */
-    IND_MOST_PARTS = 1024       /* "parts (at most 1,024; the 38 bytes of a type 7 body)" */
+    IND_MOST_PARTS = 1600,      /* "Raise the limit to 1,600 parts" */
+    IND_EARLIER_PARTS = 1024    /* "parts (at most 1,024; the 38 bytes of a type 7 body)": the limit of "the earlier program" */
 };
 
 /* "Refusal numbers", with request Q-4's "14 SHORT" and "28 LONG" and Q-11's "30 CENTRE"; 0 is none of them. */

@@ -51,6 +51,7 @@ use Rattle.demands.proofs.CheckedLabels.{checked-labels, labels-so}
 use Rattle.demands.proofs.CheckedConfirms.{checked-confirms, confirms-so}
 use Rattle.demands.proofs.CheckedSizes.{checked-sizes, sizes-so}
 use Rattle.demands.proofs.CheckedSums.{checked-sums, sums-so}
+use Rattle.demands.proofs.CheckedParts.{checked-parts, parts-so}
 use Rattle.verdict.specs.Refusals.{STATE, ROOM, LENGTH, END, SUM, COMMAND, TIME, TYPE, COUNT, SETTING, FULL, STRAY, CENTRE}
 
 -- a verdict's number and place
@@ -304,7 +305,7 @@ checked-centres =
 
 -- all of them
 abbrev pub checked : List (List ℕ × List ℕ)
-checked = checked-first ++ (checked-ends ++ (checked-centres ++ (checked-labels ++ (checked-confirms ++ (checked-sizes ++ checked-sums)))))
+checked = checked-first ++ (checked-ends ++ (checked-centres ++ (checked-labels ++ (checked-confirms ++ (checked-sizes ++ (checked-sums ++ checked-parts))))))
 
 abbrev said : List ℕ × List ℕ → List ℕ
 said e = e .0
@@ -340,4 +341,4 @@ unfolding openedPacket unitPlace partBy judgedPacket judgedContent judgedUnder j
 centres-so = refl
 
 pub checked-so : map said checked ≡ map written checked
-checked-so = λ i. first-so i ++ (ends-so i ++ (centres-so i ++ (labels-so i ++ (confirms-so i ++ (sizes-so i ++ sums-so i)))))
+checked-so = λ i. first-so i ++ (ends-so i ++ (centres-so i ++ (labels-so i ++ (confirms-so i ++ (sizes-so i ++ (sums-so i ++ parts-so i))))))

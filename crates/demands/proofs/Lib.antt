@@ -4,6 +4,7 @@ pub mod CheckedLabels
 pub mod CheckedConfirms
 pub mod CheckedSizes
 pub mod CheckedSums
+pub mod CheckedParts
 pub mod Checked
 pub mod Demand1
 pub mod Demand2
@@ -17,9 +18,11 @@ pub mod AlwaysEnds
 pub mod TwoCentres
 pub mod Demand3
 pub mod DeviceTable
+pub mod MoreParts
 pub mod Narrowed
 pub mod Release13
 pub mod ThisRelease
 pub mod Release14
 pub mod Release15
+pub mod Release17
 pub mod Exported

@@ -56,10 +56,10 @@ tables =
     ∷ (0x40 ∷ 0 ∷ [], refuses CUT 0)
     ∷ (two-systems, refuses CUT 0)
     ∷ (one-system ++ (1 ∷ 0 ∷ []) ++ sized 30 (key 1 2 1) 0, refuses CUT 0)
-    -- MANY: 65 systems, 1,025 parts
+    -- MANY: 65 systems, 1,601 parts
     ∷ (0x41 ∷ 0 ∷ [], refuses MANY 0)
-    ∷ (0 ∷ 0 ∷ 1 ∷ 4 ∷ [], refuses MANY 0)
-    ∷ (0 ∷ 0 ∷ 0 ∷ 4 ∷ [], refuses CUT 0)
+    ∷ (0 ∷ 0 ∷ 0x41 ∷ 6 ∷ [], refuses MANY 0)
+    ∷ (0 ∷ 0 ∷ 0x40 ∷ 6 ∷ [], refuses CUT 0)
     -- a section is judged to its end before the next count is read
     ∷ (2 ∷ 0 ∷ 1 ∷ 2 ∷ 1 ∷ 2 ∷ [], refuses ORDER 1)
     ∷ (2 ∷ 0 ∷ 2 ∷ 1 ∷ 1 ∷ 2 ∷ [], refuses ORDER 1)

@@ -9,7 +9,7 @@ use borrow.Author.Tests.{ltb-true}
 use lib.Dec.{ltb}
 use lib.ListN.{length}
 use Rattle.octets.specs.Searches.{firstRefused}
-use Rattle.octets.proofs.Flags.{on, off}
+use Rattle.octets.proofs.Flags.{on, off, by-test}
 use Rattle.verdict.specs.declared.Verdict.{Verdict}
 use Rattle.verdict.specs.declared.Part.{Part}
 use Rattle.verdict.specs.Orders.{inOrder, refusal, good, isGood, refusing, noPart, partBy}
@@ -77,6 +77,17 @@ module _ (a b : Section) (t : List ℕ) where
     place-listed g e =
         let v : inOrder (tableTests a b t ++ (listedTest a b t x ∷ [])) good ≡ good = past g ∙ passed (listedTest a b t x) [] good e in
         simp v
+
+    -- by the table's own verdict
+    abbrev pub foundAs : Verdict → Part
+    foundAs v = cond (isGood v) (partBy (inOrder (listedTest a b t x ∷ []) good) (partAt a b t x + b .key) (partAt a b t x + b .entry)) (noPart v)
+
+    pub found-as : foundPlace a b t x ≡ foundAs (judged a b t)
+    unfolding foundPlace
+    found-as =
+        by-test (isGood (judged a b t))
+        (λ g. ap (λ (v : Verdict). partBy v (partAt a b t x + b .key) (partAt a b t x + b .entry)) (past g) ∙ sym (simp g))
+        (λ g. sym (place-refused g) ∙ sym (simp g))
 
 -- what is known of a table that was judged good, whose parts begin at `from`
 pub record Judged (a b : Section) (t : List ℕ) (j : Judgement) (from : ℕ) : Type 0 where

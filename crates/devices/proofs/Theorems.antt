@@ -38,8 +38,8 @@ pub good-size : (t : List ℕ) → Good t → length t ≡ 4 + 2 * systemCount t
 unfolding entryAt
 good-size t g = omega (arith, good-sound ofSystems ofParts t g .ends)
 
--- at most 64 systems and 1,024 parts
-pub good-counts : (t : List ℕ) → Good t → (systemCount t ≤ 64) × (partCount t ≤ 1024)
+-- at most 64 systems and 1,600 parts
+pub good-counts : (t : List ℕ) → Good t → (systemCount t ≤ 64) × (partCount t ≤ 1600)
 good-counts t g = let s = good-sound ofSystems ofParts t g in (s .systems .few, s .parts .few)
 
 -- the entries of a section that is whole are distinct

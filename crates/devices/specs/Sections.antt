@@ -14,6 +14,10 @@ use Rattle.verdict.specs.Refusals.{CUT, MANY}
 use Rattle.devices.specs.declared.Section.{Section}
 use Rattle.devices.specs.Keys.{below, same}
 
+-- the same section under another limit
+abbrev pub limited : Section → ℕ → Section
+limited z n = record { limit = n; entry = z .entry; key = z .key }
+
 -- "each after its 2-byte count"
 unfoldable pub countAt : List ℕ → ℕ → ℕ
 countAt t from = lowFirst (take 2 (drop from t))

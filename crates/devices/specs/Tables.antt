@@ -1,26 +1,30 @@
 -- The judge of a device table and the finding of a part (document 01, "Device table"), over any two sections a of systems and b of parts.
 -- Assumes nothing.
 use Prim.Native.Nat.{ℕ, _+_}
-use mathlib.Core.Bool.{cond}
+use mathlib.Core.Bool.{Bool, cond, _&&_}
 use mathlib.Core.List.{List, [], _∷_, _++_}
-use lib.Dec.{leb}
+use lib.Dec.{leb, ltb}
 use lib.ListN.{length}
 use Rattle.octets.specs.Numbers.{bytesOf}
 use Rattle.verdict.specs.declared.Verdict.{Verdict}
 use Rattle.verdict.specs.declared.Part.{Part}
 use Rattle.verdict.specs.Orders.{Test, _or-else_, inOrder, good, isGood, partBy}
-use Rattle.verdict.specs.Refusals.{ORDER, ORPHAN, TAIL, UNLISTED}
+use Rattle.verdict.specs.Refusals.{CUT, ORDER, ORPHAN, TAIL, UNLISTED}
 use Rattle.devices.specs.declared.Section.{Section}
 use Rattle.devices.specs.declared.Judgement.{Judgement}
 use Rattle.devices.specs.declared.PartKey.{PartKey}
-use Rattle.devices.specs.Sections.{countAt, entryAt, endOf, firstBytes, rises, entryOf, isListed, sectionTests, atPlace, eachEntry}
+use Rattle.devices.specs.Sections.{countAt, entryAt, endOf, firstBytes, rises, entryOf, isListed, sectionTests, atPlace, eachEntry, limited}
 
--- "systems (at most 64; type, address), then parts (at most 1,024; the 38 bytes of a type 7 body)"
+-- "systems (at most 64; type, address), then parts (at most 1,024; the 38 bytes of a type 7 body)"; document 02, Q-7: "Raise the limit to 1,600 parts"
 abbrev pub ofSystems : Section
 ofSystems = record { limit = 64; entry = 2; key = 2 }
 
 abbrev pub ofParts : Section
-ofParts = record { limit = 1024; entry = 38; key = 7 }
+ofParts = record { limit = 1600; entry = 38; key = 7 }
+
+-- "a table of 1,024 parts or fewer has the same bytes as before and the earlier program reads it": the parts as it takes them, under document 01's limit
+abbrev pub earlierParts : Section
+earlierParts = limited ofParts 1024
 
 -- "systems .., then parts": the parts begin where the systems end
 abbrev pub partsFrom : Section → List ℕ → ℕ
@@ -57,6 +61,14 @@ abbrev pub tableTests : Section → Section → List ℕ → List Test
 tableTests a b t =
     sectionTests a t 0
     ++ (systemsTests a t ++ (sectionTests b t (partsFrom a t) ++ (partsTests a b t ++ (tailTest a b t ∷ []))))
+
+-- what stands before MANY of the parts: the systems, and "CUT of the count"
+abbrev pub countedTests : Section → List ℕ → List Test
+countedTests a t = sectionTests a t 0 ++ (systemsTests a t ++ ((leb (partsFrom a t + 2) (length t) or-else CUT) ∷ []))
+
+-- "A larger one is refused by the earlier program as MANY": whether a table comes to the number of its parts, and it is over a limit
+unfoldable pub isLarger : Section → ℕ → List ℕ → Bool
+isLarger a m t = isGood (inOrder (countedTests a t) good) && ltb m (countAt t (partsFrom a t))
 
 -- a table's verdict
 unfoldable pub judged : Section → Section → List ℕ → Verdict

@@ -27,12 +27,15 @@ pub const SYSTEMS: Section = Section {
     key: 2,
 };
 
-// "parts (at most 1,024; the 38 bytes of a type 7 body)".
+// "parts (.. the 38 bytes of a type 7 body)", and "Raise the limit to 1,600 parts".
 pub const PARTS: Section = Section {
-    limit: 1024,
+    limit: 1600,
     entry: 38,
     key: 7,
 };
+
+// "a table of 1,024 parts or fewer .. the earlier program reads it": the limit in releases before 1.8.
+pub const EARLIER_MOST: usize = 1024;
 
 // A table's verdict, and where it is good the numbers of its systems and parts.
 #[repr(C)]

@@ -2,3 +2,4 @@ pub mod Digits
 pub mod Adding
 pub mod Wording
 pub mod Saying
+pub mod Limits

@@ -10,15 +10,17 @@ use lib.ListN.{length, getD, take, drop, length-take}
 use Rattle.devices.specs.declared.Section.{Section}
 use Rattle.devices.specs.Sections.{countAt, entryAt, endOf, sectionTests}
 use Rattle.devices.specs.declared.Judgement.{Judgement}
-use Rattle.devices.specs.Tables.{ofSystems, ofParts, partsFrom, judged, judgement}
+use Rattle.devices.specs.Tables.{ofSystems, ofParts, earlierParts, partsFrom, judged, judgement}
 use Rattle.devices.proofs.Finding.{judgement-told}
+use Rattle.devices.proofs.Limits.{earlier-says}
 use Rattle.naming.specs.Names.{ascii, letters}
 use Rattle.octets.specs.Numbers.{lowFirst}
 use Rattle.verdict.specs.declared.Verdict.{Verdict}
-use Rattle.verdict.specs.Orders.{inOrder, good, isGood}
+use Rattle.verdict.specs.Orders.{inOrder, refusal, good, isGood}
+use Rattle.verdict.specs.Refusals.{MANY}
 use Rattle.lines.specs.Added.{Added}
 use Rattle.lines.specs.Tables.{led, counted, countCutSaid, manySaid, cutSaid, sectionSaid, sectionsSaid, ofEntry, placeSaid}
-use Rattle.lines.specs.Tables.{goodSaid, ownNumber, whySaid, tailSaid, whatSaid, refusedSaid, tableSaid}
+use Rattle.lines.specs.Tables.{goodSaid, earlierSaid, ownNumber, whySaid, tailSaid, whatSaid, refusedSaid, tableSaid, allSaid}
 use Rattle.lines.specs.declared.Why.{Why}
 use Rattle.lines.specs.Tables.{fileName, fileLine, tableLine, unjudgedSaid, unjudgedLine}
 use Rattle.lines.proofs.Adding.{added-then, added-as}
@@ -32,6 +34,22 @@ module _ (o q text noun : List ℕ) (at n end : ℕ) where
   pub more-of : (n ≡ 1 → ⊥) → Added o at (led text n ++ ascii " " ++ noun ++ ascii "s") q end → Added o at (counted text n noun) q end
   unfolding counted
   more-of h a = added-as (sym (simp (ne-eqb n 1 h))) a
+
+-- what an earlier program says of a good table, by the number of its parts
+abbrev pub byParts : ℕ → List ℕ
+byParts parts = earlierSaid (cond (leb parts (earlierParts .limit)) good (refusal MANY 0))
+
+module _ (o q : List ℕ) (at parts end : ℕ) where
+  pub reads-it : parts ≤ 1024 → Added o at [] q end → Added o at (byParts parts) q end
+  unfolding earlierSaid
+  reads-it h a = added-as (sym (simp (le-leb parts 1024 h))) a
+
+  pub refuses-it : 1024 < parts → Added o at (ascii "; releases before 1.8 refuse it as " ++ letters MANY ++ ascii ": replace it before going back to one") q end
+      → Added o at (byParts parts) q end
+  unfolding earlierSaid
+  refuses-it h a = added-as (sym (simp (lt-leb parts 1024 h))) a
+
+pub ruleset earlier = (reads-it, refuses-it)
 
 -- the tests of a section, at the count that was read
 module _ (o q noun t : List ℕ) (z : Section) (at from end : ℕ) where
@@ -186,17 +204,22 @@ module _ (o p q t : List ℕ) (at mid end : ℕ) (j : Judgement) (g : Bool) (jud
   begins : Added o at (letters (judged ofSystems ofParts t .number)) p mid
   begins = added-as (ap (λ (v : Verdict). letters (v .number)) verdict-is) named
 
-  pub said-good : g ≡ true → Added p mid (goodSaid (j .systems) (j .parts) (length t)) q end → Added o at (tableSaid ofSystems ofParts t) q end
-  unfolding tableSaid
-  said-good e a =
+  pub said-good : (p2 : List ℕ) (m2 : ℕ) → g ≡ true → Added p mid (goodSaid (j .systems) (j .parts) (length t)) p2 m2
+      → Added p2 m2 (byParts (j .parts)) q end → Added o at (allSaid ofSystems ofParts earlierParts t) q end
+  unfolding allSaid tableSaid
+  said-good p2 m2 e a b =
       let counts = judgement-told ofSystems ofParts t j judged-so .1 (good-is ∙ e) in
       let holds : goodSaid (j .systems) (j .parts) (length t) ≡ goodSaid (countAt t 0) (countAt t (partsFrom ofSystems t)) (length t) =
       ap (λ (n : ℕ). goodSaid n (j .parts) (length t)) (counts .0) ∙ ap (λ (n : ℕ). goodSaid (countAt t 0) n (length t)) (counts .1) in
-      added-then begins (added-as (holds ∙ sym (simp (good-is ∙ e))) a)
+      let earlier-is : byParts (j .parts) ≡ earlierSaid (judged ofSystems earlierParts t) =
+      ap byParts (counts .1) ∙ ap earlierSaid (sym (earlier-says ofSystems ofParts t 1024 1600 (omega arith) (good-is ∙ e))) in
+      added-as (sym (simp (good-is ∙ e))) (added-then (added-then begins (added-as holds a)) (added-as earlier-is b))
 
-  pub said-refused : g ≡ false → Added p mid (refusedSaid ofSystems ofParts t (j .verdict)) q end → Added o at (tableSaid ofSystems ofParts t) q end
-  unfolding tableSaid
-  said-refused e a = added-then begins (added-as (ap (refusedSaid ofSystems ofParts t) verdict-is ∙ sym (simp (good-is ∙ e))) a)
+  pub said-refused : g ≡ false → Added p mid (refusedSaid ofSystems ofParts t (j .verdict)) q end → Added o at (allSaid ofSystems ofParts earlierParts t) q end
+  unfolding allSaid tableSaid
+  said-refused e a =
+      added-as (sym (simp (good-is ∙ e) (append-nil (letters (judged ofSystems ofParts t .number) ++ refusedSaid ofSystems ofParts t (judged ofSystems ofParts t)))))
+      (added-then begins (added-as (ap (refusedSaid ofSystems ofParts t) verdict-is) a))
 
 pub ruleset says = (said-good, said-refused)
 
@@ -219,8 +242,8 @@ pub ruleset fronts = (front-fits, front-short, front-added)
 
 -- a line of three pieces
 module _ (o p1 p2 q name : List ℕ) (m1 m2 end : ℕ) (a : Added o 0 (fileName name) p1 m1) where
-  pub table-made : (t : List ℕ) → Added p1 m1 (tableSaid ofSystems ofParts t) p2 m2 → Added p2 m2 (10 ∷ []) q end
-      → Added o 0 (tableLine ofSystems ofParts name t) q end
+  pub table-made : (t : List ℕ) → Added p1 m1 (allSaid ofSystems ofParts earlierParts t) p2 m2 → Added p2 m2 (10 ∷ []) q end
+      → Added o 0 (tableLine ofSystems ofParts earlierParts name t) q end
   unfolding tableLine fileLine
   table-made t b c = added-then (added-then a b) c
 

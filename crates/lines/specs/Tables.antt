@@ -1,5 +1,5 @@
--- The lines of the program `tables`: a file's name, then what the judge of device tables says of it, in words. Over any two sections a of systems
--- and b of parts (document 01, "Device table"). Assumes nothing.
+-- The lines of the program `tables`: a file's name, then what the judge of device tables says of it, in words. Over any sections a of systems
+-- and b of parts (document 01, "Device table"), and e of parts as an earlier program takes them (document 02, Q-7). Assumes nothing.
 use Prim.Native.Nat.{ℕ, _+_, _-_, _/_}
 use mathlib.Core.Bool.{Bool, cond, _||_}
 use mathlib.Core.List.{List, [], _∷_, _++_}
@@ -11,7 +11,7 @@ use Rattle.devices.specs.Tables.{partsFrom, judged}
 use Rattle.naming.specs.Names.{ascii, letters}
 use Rattle.verdict.specs.declared.Verdict.{Verdict}
 use Rattle.verdict.specs.Orders.{inOrder, good, isGood}
-use Rattle.verdict.specs.Refusals.{ORDER, ORPHAN, TAIL}
+use Rattle.verdict.specs.Refusals.{MANY, ORDER, ORPHAN, TAIL}
 use Rattle.lines.specs.declared.Why.{Why}
 use Rattle.lines.specs.declared.Why.the-variants.{Absent, Folder, Barred, Broken, Longer}
 use Rattle.lines.specs.Decimal.{decimal}
@@ -97,6 +97,19 @@ tableSaid a b t =
     letters (judged a b t .number)
     ++ cond (isGood (judged a b t)) (goodSaid (countAt t 0) (countAt t (partsFrom a t)) (length t)) (refusedSaid a b t (judged a b t))
 
+-- so of more parts than a program takes: MANY: 1600 parts, at most 1024
+abbrev pub partsMany : Section → List ℕ → ℕ → List ℕ
+partsMany a t limit = letters MANY ++ (ascii ": " ++ manySaid (ascii "part") (countAt t (partsFrom a t)) limit)
+
+-- "A larger one is refused by the earlier program as MANY": by what an earlier program says, that it refuses a table, and what is to be done
+unfoldable pub earlierSaid : Verdict → List ℕ
+earlierSaid v =
+    cond (isGood v) [] (ascii "; releases before 1.8 refuse it as " ++ letters (v .number) ++ ascii ": replace it before going back to one")
+
+-- so behind a table that is good
+unfoldable pub allSaid : Section → Section → Section → List ℕ → List ℕ
+allSaid a b e t = tableSaid a b t ++ cond (isGood (judged a b t)) (earlierSaid (judged a e t)) []
+
 -- a line of the program: a file's name, which has at most 4,095 bytes, and what is said of it
 unfoldable pub fileName : List ℕ → List ℕ
 fileName name = take 4095 name ++ ascii ": "
@@ -104,8 +117,8 @@ fileName name = take 4095 name ++ ascii ": "
 unfoldable pub fileLine : List ℕ → List ℕ → List ℕ
 fileLine name said = fileName name ++ said ++ (10 ∷ [])
 
-unfoldable pub tableLine : Section → Section → List ℕ → List ℕ → List ℕ
-tableLine a b name t = fileLine name (tableSaid a b t)
+unfoldable pub tableLine : Section → Section → Section → List ℕ → List ℕ → List ℕ
+tableLine a b e name t = fileLine name (allSaid a b e t)
 
 -- a file that could not be judged, and why
 unfoldable pub unjudgedSaid : Why → List ℕ

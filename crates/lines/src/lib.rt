@@ -2,7 +2,7 @@
 ghost use mathlib.Core.Path.{_≡_};
 ghost use Prim.Native.Nat.{_+_, _≤_};
 ghost use lib.ListN.{length};
-ghost use Rattle.devices.specs.Tables.{ofSystems, ofParts};
+ghost use Rattle.devices.specs.Tables.{ofSystems, ofParts, earlierParts};
 ghost use Rattle.octets.specs.Parts.{putAt};
 ghost use Rattle.lines.specs.Added.{Added};
 ghost use Rattle.lines.specs.Events.{line, packetWords, shortLine, packetLine, eventLine, lastLine};
@@ -112,15 +112,15 @@ fn last_words(row: &mut [u8; 128], held: usize, skipped: usize) -> usize
 }
 
 // The line of a device table file, in the front of the row, and its length.
-pub fn table_line(name: &[u8], table: &[u8], row: &mut [u8; 4224]) -> usize
-    ensures { λ r. ⌜ r ≡ length (tableLine ofSystems ofParts (now (name .entry)) (now (table .entry))) ⌝ }
-    ensures { λ r. ⌜ now (row .exit) ≡ putAt (now (row .entry)) 0 (tableLine ofSystems ofParts (now (name .entry)) (now (table .entry))) ⌝ }
+pub fn table_line(name: &[u8], table: &[u8], row: &mut [u8; 4352]) -> usize
+    ensures { λ r. ⌜ r ≡ length (tableLine ofSystems ofParts earlierParts (now (name .entry)) (now (table .entry))) ⌝ }
+    ensures { λ r. ⌜ now (row .exit) ≡ putAt (now (row .entry)) 0 (tableLine ofSystems ofParts earlierParts (now (name .entry)) (now (table .entry))) ⌝ }
 {
     table_words(row, name, table)
 }
 
-fn table_words(row: &mut [u8; 4224], name: &[u8], table: &[u8]) -> usize
-    ensures { λ r. ⌜ Added (now (row .entry)) 0 (tableLine ofSystems ofParts (now (name .entry)) (now (table .entry))) (now (row .exit)) r ⌝ }
+fn table_words(row: &mut [u8; 4352], name: &[u8], table: &[u8]) -> usize
+    ensures { λ r. ⌜ Added (now (row .entry)) 0 (tableLine ofSystems ofParts earlierParts (now (name .entry)) (now (table .entry))) (now (row .exit)) r ⌝ }
 {
     let mut at = put_file_name(row, name);
     at = put_said(row, at, table);
@@ -128,14 +128,14 @@ fn table_words(row: &mut [u8; 4224], name: &[u8], table: &[u8]) -> usize
 }
 
 // The line of a file that could not be judged, since it is longer than a table may be or else cannot be read.
-pub fn unjudged_line(name: &[u8], why: Why, row: &mut [u8; 4224]) -> usize
+pub fn unjudged_line(name: &[u8], why: Why, row: &mut [u8; 4352]) -> usize
     ensures { λ r. ⌜ r ≡ length (unjudgedLine (now (name .entry)) why) ⌝ }
     ensures { λ r. ⌜ now (row .exit) ≡ putAt (now (row .entry)) 0 (unjudgedLine (now (name .entry)) why) ⌝ }
 {
     unjudged_words(row, name, why)
 }
 
-fn unjudged_words(row: &mut [u8; 4224], name: &[u8], why: Why) -> usize
+fn unjudged_words(row: &mut [u8; 4352], name: &[u8], why: Why) -> usize
     ensures { λ r. ⌜ Added (now (row .entry)) 0 (unjudgedLine (now (name .entry)) why) (now (row .exit)) r ⌝ }
 {
     let mut at = put_file_name(row, name);

@@ -1,13 +1,16 @@
 // What is said of a device table, put into a lent row piece by piece.
 ghost use Prim.Native.Nat.{_+_, _≤_, _<_};
+ghost use mathlib.Core.Bool.{cond};
 ghost use mathlib.Core.Path.{_≡_};
+ghost use lib.Dec.{leb};
 ghost use lib.ListN.{length, take};
 ghost use Rattle.devices.specs.Sections.{endOf, sectionTests};
-ghost use Rattle.devices.specs.Tables.{ofSystems, ofParts, partsFrom};
-ghost use Rattle.verdict.specs.Orders.{inOrder, good, isGood};
+ghost use Rattle.devices.specs.Tables.{ofSystems, ofParts, earlierParts, partsFrom};
+ghost use Rattle.verdict.specs.Orders.{inOrder, good, isGood, refusal};
+ghost use Rattle.verdict.specs.Refusals.{MANY};
 ghost use Rattle.lines.specs.Added.{Added};
-ghost use Rattle.lines.specs.Tables.{led, counted, goodSaid, ofSaid, countCutSaid, manySaid, cutSaid, sectionSaid, sectionsSaid, ofEntry, placeSaid};
-ghost use Rattle.lines.specs.Tables.{ownNumber, whySaid, newlineSaid, tailSaid, whatSaid, refusedSaid, tableSaid, fileName, unjudgedSaid};
+ghost use Rattle.lines.specs.Tables.{led, counted, goodSaid, earlierSaid, ofSaid, countCutSaid, manySaid, cutSaid, sectionSaid, sectionsSaid, ofEntry, placeSaid};
+ghost use Rattle.lines.specs.Tables.{ownNumber, whySaid, newlineSaid, tailSaid, whatSaid, refusedSaid, allSaid, fileName, unjudgedSaid};
 use crate::Why;
 use crate::number::put_byte;
 use crate::number::put_name;
@@ -53,6 +56,20 @@ fn put_good(row: &mut [u8], at: usize, systems: usize, parts: usize, bytes: usiz
     let mut behind = put_counted(row, at, b" ", systems, b"system");
     behind = put_counted(row, behind, b", ", parts, b"part");
     put_counted(row, behind, b", ", bytes, b"byte")
+}
+
+// What an earlier program says of a table that is good here: it reads fewer parts.
+fn put_earlier(row: &mut [u8], at: usize, parts: usize) -> usize
+    requires { ⌜ at + 81 ≤ length (now row) ⌝ }
+    ensures { λ r. ⌜ Added (now (row .entry)) at (earlierSaid (cond (leb parts (earlierParts .limit)) good (refusal MANY 0))) (now (row .exit)) r ⌝ }
+    ensures { λ r. ⌜ r ≤ at + 81 ⌝ }
+{
+    if parts <= devices::EARLIER_MOST {
+        return at;
+    }
+    let mut behind = put_text(row, at, b"; releases before 1.8 refuse it as ");
+    behind = put_name(row, behind, verdict::MANY);
+    put_text(row, behind, b": replace it before going back to one")
 }
 
 // How much of what is due is there.
@@ -270,15 +287,16 @@ fn put_refused(row: &mut [u8], at: usize, table: &[u8], v: Verdict) -> usize
 
 // What is said of a table.
 pub fn put_said(row: &mut [u8], at: usize, table: &[u8]) -> usize
-    requires { ⌜ at + 112 ≤ length (now row) ⌝ }
-    ensures { λ r. ⌜ Added (now (row .entry)) at (tableSaid ofSystems ofParts (now (table .entry))) (now (row .exit)) r ⌝ }
-    ensures { λ r. ⌜ r ≤ at + 112 ⌝ }
+    requires { ⌜ at + 180 ≤ length (now row) ⌝ }
+    ensures { λ r. ⌜ Added (now (row .entry)) at (allSaid ofSystems ofParts earlierParts (now (table .entry))) (now (row .exit)) r ⌝ }
+    ensures { λ r. ⌜ r ≤ at + 180 ⌝ }
 {
     let judged = devices::judge(table);
     let v = judged.verdict;
     let behind = put_name(row, at, v.number);
     if v.is_good() {
-        return put_good(row, behind, judged.systems, judged.parts, table.len());
+        let held = put_good(row, behind, judged.systems, judged.parts, table.len());
+        return put_earlier(row, held, judged.parts);
     }
     put_refused(row, behind, table, v)
 }

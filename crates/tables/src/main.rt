@@ -62,14 +62,14 @@ fn read_all(fd: i32, buf: &mut [u8]) -> Input {
 }
 
 // Room for the longest line.
-fn line_room() -> [u8; 4224]
-    ensures { λ r. ⌜ 4224 ≡ length r ⌝ }
+fn line_room() -> [u8; 4352]
+    ensures { λ r. ⌜ 4352 ≡ length r ⌝ }
 {
-    [0; 4224]
+    [0; 4352]
 }
 
 // Writes a line by one call, and answers what it is told to where that could be done; where it could not, it says why.
-fn print_line(row: &[u8; 4224], length: usize, outcome: u8) -> u8 {
+fn print_line(row: &[u8; 4352], length: usize, outcome: u8) -> u8 {
     if io::write_all(STDOUT_FILENO, octets::part_of(row, 0, length)) {
         return outcome;
     }

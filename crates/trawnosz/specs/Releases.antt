@@ -4,4 +4,4 @@ use mathlib.Core.List.{List}
 use Rattle.naming.specs.Names.{ascii}
 
 abbrev pub release : List ℕ
-release = ascii "1.7"
+release = ascii "1.8"

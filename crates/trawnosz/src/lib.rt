@@ -43,7 +43,7 @@ use verdict::Part;
 use verdict::Verdict;
 
 // The release's number, as the file RELEASE has it.
-const RELEASE: [u8; 3] = *b"1.7";
+const RELEASE: [u8; 3] = *b"1.8";
 
 // The answer of a receiver's call.
 #[repr(C)]

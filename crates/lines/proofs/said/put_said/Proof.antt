@@ -14,6 +14,7 @@ put-said-spec =
     (λ c κs. search needs)
     unasked
     (λ c κs. search needs)
+    (λ c κs. search needs)
     (λ c. search needs)
     (λ c. (search says, omega arith))  -- v.is_good()
     (λ c κs. search needs)
