@@ -21,6 +21,10 @@ partsIn t = countAt t (partsFrom ofSystems t)
 pub table-longest : (t : List ℕ) → isGood (judgedTable ofSystems ofParts t) ≡ true → (length t ≤ 60932) × (length t < 65536)
 table-longest t g = let h = good-longest ofSystems ofParts t g in (h, omega arith)
 
+-- and what the earlier program took
+pub earlier-longest : (t : List ℕ) → isGood (judgedTable ofSystems earlierParts t) ≡ true → length t ≤ 39044
+earlier-longest t g = good-longest ofSystems earlierParts t g
+
 -- "Refusals: MANY from 1,601": of a table that comes to the number of its parts, and no good table has so many
 pub many-from-1601 : (t : List ℕ) → isLarger ofSystems 1600 t ≡ true → judgedTable ofSystems ofParts t ≡ refusal MANY 0
 many-from-1601 t e = larger-many ofSystems ofParts t 1600 e
