@@ -17,7 +17,7 @@ use Rattle.verdict.specs.Refusals.{CUT, MANY, ORDER, ORPHAN}
 use Rattle.verdict.proofs.Order.{joined, passed, failed, stays, goes-on, good-held, held-good, refusing-append}
 use Rattle.devices.specs.declared.Section.{Section}
 use Rattle.devices.specs.declared.Judgement.{Judgement}
-use Rattle.devices.specs.Sections.{countAt, entryAt, endOf, firstBytes, rises, entryOf, isListed, sectionTests, atPlace, eachEntry, limited}
+use Rattle.devices.specs.Sections.{countAt, entryAt, endOf, firstBytes, rises, entryOf, isListed, countTest, sectionTests, atPlace, eachEntry, limited}
 use Rattle.devices.specs.Tables.{partsFrom, systemOf, systemTests, systemsTests, partsTests, tailTest, countedTests, isLarger, judged, refusedBy, judgement, foundPlace}
 use Rattle.devices.proofs.Each.{refusing-each}
 use Rattle.devices.proofs.Good.{good-sound}
@@ -48,7 +48,7 @@ module _ (a b : Section) (t : List ℕ) where
   cut-there : (m : ℕ) → judged a (limited b m) t ≡ inOrder (countedTests a t) (fromMany m)
   unfolding judged fromMany behindMany
   cut-there m =
-      let counted = (leb (p + 2) (length t) or-else CUT) ∷ [] in
+      let counted = countTest t p ∷ [] in
       let rest = sectionTests (limited b m) t p ++ (partsTests a (limited b m) t ++ (tailTest a (limited b m) t ∷ [])) in
       joined (sectionTests a t 0) (systemsTests a t ++ rest) good
       ∙ ap (inOrder (sectionTests a t 0))

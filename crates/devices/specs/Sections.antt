@@ -51,10 +51,14 @@ entryOf z t from x = firstFit (λ k. same (keyAt z t from k) x) 0 (countAt t fro
 abbrev pub isListed : Section → List ℕ → ℕ → List ℕ → Bool
 isListed z t from x = ltb (entryOf z t from x) (countAt t from)
 
+-- "CUT of the count"
+abbrev pub countTest : List ℕ → ℕ → Test
+countTest t from = leb (from + 2) (length t) or-else CUT
+
 -- "per section CUT of the count, MANY, CUT"
 abbrev pub sectionTests : Section → List ℕ → ℕ → List Test
 sectionTests z t from =
-    (leb (from + 2) (length t) or-else CUT)
+    countTest t from
     ∷ (leb (countAt t from) (z .limit) or-else MANY)
     ∷ (leb (endOf z t from) (length t) or-else CUT)
     ∷ []

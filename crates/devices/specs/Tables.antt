@@ -9,11 +9,11 @@ use Rattle.octets.specs.Numbers.{bytesOf}
 use Rattle.verdict.specs.declared.Verdict.{Verdict}
 use Rattle.verdict.specs.declared.Part.{Part}
 use Rattle.verdict.specs.Orders.{Test, _or-else_, inOrder, good, isGood, partBy}
-use Rattle.verdict.specs.Refusals.{CUT, ORDER, ORPHAN, TAIL, UNLISTED}
+use Rattle.verdict.specs.Refusals.{ORDER, ORPHAN, TAIL, UNLISTED}
 use Rattle.devices.specs.declared.Section.{Section}
 use Rattle.devices.specs.declared.Judgement.{Judgement}
 use Rattle.devices.specs.declared.PartKey.{PartKey}
-use Rattle.devices.specs.Sections.{countAt, entryAt, endOf, firstBytes, rises, entryOf, isListed, sectionTests, atPlace, eachEntry, limited}
+use Rattle.devices.specs.Sections.{countAt, entryAt, endOf, firstBytes, rises, entryOf, isListed, countTest, sectionTests, atPlace, eachEntry, limited}
 
 -- "systems (at most 64; type, address), then parts (at most 1,024; the 38 bytes of a type 7 body)"; document 02, Q-7: "Raise the limit to 1,600 parts"
 abbrev pub ofSystems : Section
@@ -64,7 +64,7 @@ tableTests a b t =
 
 -- what stands before MANY of the parts: the systems, and "CUT of the count"
 abbrev pub countedTests : Section → List ℕ → List Test
-countedTests a t = sectionTests a t 0 ++ (systemsTests a t ++ ((leb (partsFrom a t + 2) (length t) or-else CUT) ∷ []))
+countedTests a t = sectionTests a t 0 ++ (systemsTests a t ++ (countTest t (partsFrom a t) ∷ []))
 
 -- "A larger one is refused by the earlier program as MANY": whether a table comes to the number of its parts, and it is over a limit
 unfoldable pub isLarger : Section → ℕ → List ℕ → Bool

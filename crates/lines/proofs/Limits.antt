@@ -9,15 +9,15 @@ use borrow.Author.Tests.{le-leb, lt-leb, ltb-true, ltb-false}
 use lib.Dec.{leb, ltb, eqb}
 use lib.ListN.{length, getD}
 use Rattle.devices.specs.declared.Section.{Section}
-use Rattle.devices.specs.Sections.{countAt, entryAt, endOf, rises, sectionTests, eachEntry, limited}
+use Rattle.devices.specs.Sections.{countAt, entryAt, endOf, rises, countTest, sectionTests, eachEntry, limited}
 use Rattle.devices.specs.Tables.{partsFrom, systemTests, systemsTests, countedTests, isLarger, judged}
 use Rattle.devices.proofs.Each.{refusing-each}
 use Rattle.devices.proofs.Limits.{counted-refusing, larger-many, as-limited}
 use Rattle.naming.specs.Names.{ascii, letters}
 use Rattle.octets.proofs.Flags.{by-test}
 use Rattle.verdict.specs.declared.Verdict.{Verdict}
-use Rattle.verdict.specs.Orders.{_or-else_, inOrder, refusal, good, isGood, Held}
-use Rattle.verdict.specs.Refusals.{CUT, MANY, ORDER, TAIL}
+use Rattle.verdict.specs.Orders.{inOrder, refusal, good, isGood, Held}
+use Rattle.verdict.specs.Refusals.{MANY, ORDER, TAIL}
 use Rattle.verdict.proofs.Order.{joined-on, joined-stays, good-held, held-left, held-right, held-append, held-good}
 use Rattle.lines.specs.Tables.{goodSaid, countCutSaid, cutSaid, sectionSaid, sectionsSaid, ofEntry, placeSaid, ownNumber, whySaid, tailSaid, whatSaid, refusedSaid, tableSaid}
 use Rattle.lines.specs.Tables.{partsMany, earlierSaid, allSaid, fileLine, tableLine}
@@ -40,13 +40,13 @@ module _ (a b : Section) (t : List ℕ) where
   -- what held of a table that comes to the number of its parts
   came-there : isGood (inOrder (countedTests a t) good) ≡ true → (isGood (inOrder (sectionTests a t 0) good) ≡ true) × (leb (p + 2) (length t) ≡ true)
   came-there g =
-      let counted = (leb (p + 2) (length t) or-else CUT) ∷ [] in
+      let counted = countTest t p ∷ [] in
       let h : Held (countedTests a t) = good-held (countedTests a t) good (counted-refusing a b t) g .0 in (
         held-good (sectionTests a t 0) (held-left (sectionTests a t 0) (systemsTests a t ++ counted) h),
         held-right (systemsTests a t) counted (held-right (sectionTests a t 0) (systemsTests a t ++ counted) h) .0,
       )
 
-  pub larger-said : (m : ℕ) → isLarger a m t ≡ true → tableSaid a (limited b m) t ≡ partsMany a t m
+  larger-said : (m : ℕ) → isLarger a m t ≡ true → tableSaid a (limited b m) t ≡ partsMany a t m
   unfolding isLarger tableSaid refusedSaid placeSaid whatSaid sectionsSaid sectionSaid ofEntry
   larger-said m e =
       let both = and-eq-true-iff (isGood (inOrder (countedTests a t) good)) (ltb m (countAt t p)) .0 e in
@@ -97,7 +97,7 @@ module _ (a b : Section) (t : List ℕ) where
     came : isGood (inOrder (sectionTests a t 0) good) ≡ true → isGood (inOrder (systemsTests a t) good) ≡ true → leb (p + 2) (length t) ≡ true
         → isGood (inOrder (countedTests a t) good) ≡ true
     came s y c =
-        let counted = (leb (p + 2) (length t) or-else CUT) ∷ [] in
+        let counted = countTest t p ∷ [] in
         let systems : Held (systemsTests a t) = good-held (systemsTests a t) good (refusing-each (systemTests a t) (λ k. refl) 0 (countAt t 0)) y .0 in
         held-good (countedTests a t)
         (held-append (sectionTests a t 0) (systemsTests a t ++ counted) (good-held (sectionTests a t 0) good refl s .0) (held-append (systemsTests a t) counted systems (c, tt)))

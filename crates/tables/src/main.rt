@@ -37,7 +37,7 @@ fn why_not() -> Why {
     Why::Broken
 }
 
-// Room for the longest table and one byte more.
+// Room for 65,536 bytes, which no good table comes to, and one byte more.
 fn room() -> [u8; 65537]
     ensures { λ r. ⌜ 65537 ≡ length r ⌝ }
 {
