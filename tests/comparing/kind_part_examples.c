@@ -34,9 +34,10 @@ static size_t make_exactly(size_t systems, size_t parts)
     return at;
 }
 
-static void find_at(struct trial *t, size_t size, size_t part)
+/* A part is found by the seven bytes that stand in its entry, so many before the last one. */
+static void find_before_last(struct trial *t, size_t size, size_t parts)
 {
-    size_t entry = size - (part + 1) * PART;
+    size_t entry = size - (parts + 1) * PART;
     struct ind_span found = both_find_place(t, table, size, table + entry);
     expect(t, !found.verdict.refusal && found.start == entry + KEY && found.length == PART - KEY);
 }
@@ -48,9 +49,9 @@ static void try_taken(struct trial *t, size_t systems, size_t parts, size_t byte
     struct ind_devices judged = beside_earlier(t, table, size);
     expect(t, size == bytes && size < 64 * 1024 && !judged.verdict.refusal && judged.systems == systems && judged.parts == parts);
     expect(t, (ind_judge_devices_earlier(table, size).verdict.refusal == IND_MANY) == (parts > IND_EARLIER_PARTS));
-    find_at(t, size, 0);
-    find_at(t, size, parts - 1);
-    find_at(t, size, t->turn % parts);
+    find_before_last(t, size, 0);
+    find_before_last(t, size, parts - 1);
+    find_before_last(t, size, t->turn % parts);
 }
 
 void try_part_examples(struct trial *t)

@@ -7,7 +7,8 @@ use Rattle.devices.specs.Keys.{below, same}
 use Rattle.devices.specs.Sections.{countAt, entryAt, firstBytes, rises, entryOf, eachEntry, limited}
 use Rattle.devices.specs.Tables.{ofSystems, ofParts, earlierParts, judged as judgedTable}
 use Rattle.lines.specs.Decimal.{decimalIn, decimal}
-use Rattle.lines.specs.Tables.{led, counted, goodSaid, ofSaid, countCutSaid, manySaid, cutSaid, sectionSaid, sectionsSaid, ofEntry, placeSaid, whatSaid, refusedSaid, tableSaid, earlierSaid, allSaid, fileName, fileLine, tableLine}
+use Rattle.lines.specs.Tables.{led, counted, goodSaid, ofSaid, countCutSaid, manySaid, cutSaid, sectionSaid, sectionsSaid}
+use Rattle.lines.specs.Tables.{ofEntry, placeSaid, whatSaid, refusedSaid, tableSaid, earlierSaid, allSaid, fileName, fileLine, tableLine}
 use Rattle.naming.specs.Names.{ascii, lettersIn, letters}
 use Rattle.octets.specs.Numbers.{lowFirst}
 use Rattle.octets.specs.Parts.{part}
