@@ -8,9 +8,9 @@ use mathlib.Core.Path.{_≡_, subst}
 use lib.ListN.{length}
 use Rattle.devices.specs.Sections.{countAt}
 use Rattle.devices.specs.Tables.{ofSystems, ofParts, earlierParts, partsFrom, isLarger, judged as judgedTable, refusedBy, judgement, foundPlace}
-use Rattle.devices.proofs.Limits.{good-longest, larger-many, newer-larger, not-larger}
+use Rattle.devices.proofs.Limits.{good-longest, larger-many, newer-larger, not-larger, limit-raised}
 use Rattle.devices.proofs.Theorems.{good-counts}
-use Rattle.verdict.specs.Orders.{refusal, isGood, noPart}
+use Rattle.verdict.specs.Orders.{refusal, good, isGood, noPart}
 use Rattle.verdict.specs.Refusals.{MANY}
 use Rattle.demands.proofs.Release17.{table-as-in-1-7, judgement-as-in-1-7, find-as-in-1-7}
 
@@ -48,6 +48,10 @@ pub fewer-as-before : (t : List ℕ) → partsIn t ≤ 1024
     × (judgement ofSystems earlierParts t ≡ judgement ofSystems ofParts t)
     × ((x : List ℕ) → foundPlace ofSystems earlierParts t x ≡ foundPlace ofSystems ofParts t x)
 fewer-as-before t h = says-so t false (not-larger ofSystems ofParts t 1024 h)
+
+-- so what the earlier program took is taken still
+pub still-read : (t : List ℕ) → isGood (judgedTable ofSystems earlierParts t) ≡ true → judgedTable ofSystems ofParts t ≡ good
+still-read t g = limit-raised ofSystems ofParts t 1024 1600 (omega arith) g
 
 -- "A larger one is refused by the earlier program as MANY with nothing altered": at place 0 and whole, though this program takes it
 pub larger-refused : (t : List ℕ) → isGood (judgedTable ofSystems ofParts t) ≡ true → 1024 < partsIn t

@@ -17,7 +17,7 @@ use Rattle.verdict.specs.Refusals.{CUT, MANY, ORDER, ORPHAN}
 use Rattle.verdict.proofs.Order.{joined, passed, failed, stays, goes-on, good-held, held-good, refusing-append}
 use Rattle.devices.specs.declared.Section.{Section}
 use Rattle.devices.specs.declared.Judgement.{Judgement}
-use Rattle.devices.specs.Sections.{countAt, entryAt, endOf, firstBytes, rises, entryOf, isListed, countTest, sectionTests, atPlace, eachEntry, limited}
+use Rattle.devices.specs.Sections.{countAt, entryAt, endOf, firstBytes, rises, entryOf, isListed, countTest, byLimit, sectionTests, atPlace, eachEntry, limited}
 use Rattle.devices.specs.Tables.{partsFrom, systemOf, systemTests, systemsTests, partsTests, tailTest, countedTests, isLarger, judged, refusedBy, judgement, foundPlace}
 use Rattle.devices.proofs.Each.{refusing-each}
 use Rattle.devices.proofs.Good.{good-sound}
@@ -141,7 +141,7 @@ module _ (a b : Section) (t : List ℕ) where
     limit-raised h g = sym (fewer-alike (good-sound a (limited b m) t g .parts .few) h) ∙ good-one a (limited b m) t g
 
     -- what the earlier program says of a table that the later one takes
-    pub earlier-says : m ≤ n → isGood (judged a (limited b n) t) ≡ true → judged a (limited b m) t ≡ cond (leb (countAt t p) m) good (refusal MANY 0)
+    pub earlier-says : m ≤ n → isGood (judged a (limited b n) t) ≡ true → judged a (limited b m) t ≡ byLimit m (countAt t p)
     earlier-says h g =
         by-test (leb (countAt t p) m)
         (λ l. fewer-alike (leb-true (countAt t p) m l) h ∙ good-one a (limited b n) t g ∙ sym (simp l))

@@ -2,14 +2,15 @@
 -- z is the section's limit, entry size and key length, t the table's bytes, from the place where the section begins.
 -- Assumes nothing.
 use Prim.Native.Nat.{ℕ, zero, suc, _+_, _*_}
-use mathlib.Core.Bool.{Bool, true}
+use mathlib.Core.Bool.{Bool, true, cond}
 use mathlib.Core.List.{List, [], _∷_, _++_}
 use lib.Dec.{leb, ltb}
 use lib.ListN.{length, take, drop}
 use Rattle.octets.specs.Numbers.{lowFirst}
 use Rattle.octets.specs.Parts.{part}
 use Rattle.octets.specs.Searches.{firstFit}
-use Rattle.verdict.specs.Orders.{Test, _or-else_, refusal}
+use Rattle.verdict.specs.declared.Verdict.{Verdict}
+use Rattle.verdict.specs.Orders.{Test, _or-else_, refusal, good}
 use Rattle.verdict.specs.Refusals.{CUT, MANY}
 use Rattle.devices.specs.declared.Section.{Section}
 use Rattle.devices.specs.Keys.{below, same}
@@ -54,6 +55,10 @@ isListed z t from x = ltb (entryOf z t from x) (countAt t from)
 -- "CUT of the count"
 abbrev pub countTest : List ℕ → ℕ → Test
 countTest t from = leb (from + 2) (length t) or-else CUT
+
+-- MANY, "table count over its limit": what a limit alone says of a number of entries
+abbrev pub byLimit : ℕ → ℕ → Verdict
+byLimit limit n = cond (leb n limit) good (refusal MANY 0)
 
 -- "per section CUT of the count, MANY, CUT"
 abbrev pub sectionTests : Section → List ℕ → ℕ → List Test

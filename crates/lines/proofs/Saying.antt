@@ -8,7 +8,7 @@ use borrow.Author.Tests.{le-leb, lt-leb, lt-ltb, le-ltb, eq-eqb, ne-eqb}
 use lib.Dec.{leb, eqb}
 use lib.ListN.{length, getD, take, drop, length-take}
 use Rattle.devices.specs.declared.Section.{Section}
-use Rattle.devices.specs.Sections.{countAt, entryAt, endOf, sectionTests}
+use Rattle.devices.specs.Sections.{countAt, entryAt, endOf, byLimit, sectionTests}
 use Rattle.devices.specs.declared.Judgement.{Judgement}
 use Rattle.devices.specs.Tables.{ofSystems, ofParts, earlierParts, partsFrom, judged, judgement}
 use Rattle.devices.proofs.Finding.{judgement-told}
@@ -16,7 +16,7 @@ use Rattle.devices.proofs.Limits.{earlier-says}
 use Rattle.naming.specs.Names.{ascii, letters}
 use Rattle.octets.specs.Numbers.{lowFirst}
 use Rattle.verdict.specs.declared.Verdict.{Verdict}
-use Rattle.verdict.specs.Orders.{inOrder, refusal, good, isGood}
+use Rattle.verdict.specs.Orders.{inOrder, good, isGood}
 use Rattle.verdict.specs.Refusals.{MANY}
 use Rattle.lines.specs.Added.{Added}
 use Rattle.lines.specs.Tables.{led, counted, countCutSaid, manySaid, cutSaid, sectionSaid, sectionsSaid, ofEntry, placeSaid}
@@ -36,16 +36,13 @@ module _ (o q text noun : List ℕ) (at n end : ℕ) where
   more-of h a = added-as (sym (simp (ne-eqb n 1 h))) a
 
 -- what an earlier program says of a good table, by the number of its parts
-abbrev pub byParts : ℕ → List ℕ
-byParts parts = earlierSaid (cond (leb parts (earlierParts .limit)) good (refusal MANY 0))
-
 module _ (o q : List ℕ) (at parts end : ℕ) where
-  pub reads-it : parts ≤ 1024 → Added o at [] q end → Added o at (byParts parts) q end
+  pub reads-it : parts ≤ 1024 → Added o at [] q end → Added o at (earlierSaid (byLimit (earlierParts .limit) parts)) q end
   unfolding earlierSaid
   reads-it h a = added-as (sym (simp (le-leb parts 1024 h))) a
 
   pub refuses-it : 1024 < parts → Added o at (ascii "; releases before 1.8 refuse it as " ++ letters MANY ++ ascii ": replace it before going back to one") q end
-      → Added o at (byParts parts) q end
+      → Added o at (earlierSaid (byLimit (earlierParts .limit) parts)) q end
   unfolding earlierSaid
   refuses-it h a = added-as (sym (simp (lt-leb parts 1024 h))) a
 
@@ -205,15 +202,15 @@ module _ (o p q t : List ℕ) (at mid end : ℕ) (j : Judgement) (g : Bool) (jud
   begins = added-as (ap (λ (v : Verdict). letters (v .number)) verdict-is) named
 
   pub said-good : (p2 : List ℕ) (m2 : ℕ) → g ≡ true → Added p mid (goodSaid (j .systems) (j .parts) (length t)) p2 m2
-      → Added p2 m2 (byParts (j .parts)) q end → Added o at (allSaid ofSystems ofParts earlierParts t) q end
+      → Added p2 m2 (earlierSaid (byLimit (earlierParts .limit) (j .parts))) q end → Added o at (allSaid ofSystems ofParts earlierParts t) q end
   unfolding allSaid tableSaid
   said-good p2 m2 e a b =
       let counts = judgement-told ofSystems ofParts t j judged-so .1 (good-is ∙ e) in
       let holds : goodSaid (j .systems) (j .parts) (length t) ≡ goodSaid (countAt t 0) (countAt t (partsFrom ofSystems t)) (length t) =
       ap (λ (n : ℕ). goodSaid n (j .parts) (length t)) (counts .0) ∙ ap (λ (n : ℕ). goodSaid (countAt t 0) n (length t)) (counts .1) in
-      let earlier-is : byParts (j .parts) ≡ earlierSaid (judged ofSystems earlierParts t) =
-      ap byParts (counts .1) ∙ ap earlierSaid (sym (earlier-says ofSystems ofParts t 1024 1600 (omega arith) (good-is ∙ e))) in
-      added-as (sym (simp (good-is ∙ e))) (added-then (added-then begins (added-as holds a)) (added-as earlier-is b))
+      let earlier-is : byLimit (earlierParts .limit) (j .parts) ≡ judged ofSystems earlierParts t =
+      ap (byLimit (earlierParts .limit)) (counts .1) ∙ sym (earlier-says ofSystems ofParts t 1024 1600 (omega arith) (good-is ∙ e)) in
+      added-as (sym (simp (good-is ∙ e))) (added-then (added-then begins (added-as holds a)) (added-as (ap earlierSaid earlier-is) b))
 
   pub said-refused : g ≡ false → Added p mid (refusedSaid ofSystems ofParts t (j .verdict)) q end → Added o at (allSaid ofSystems ofParts earlierParts t) q end
   unfolding allSaid tableSaid

@@ -1,13 +1,10 @@
 // What is said of a device table, put into a lent row piece by piece.
 ghost use Prim.Native.Nat.{_+_, _≤_, _<_};
-ghost use mathlib.Core.Bool.{cond};
 ghost use mathlib.Core.Path.{_≡_};
-ghost use lib.Dec.{leb};
 ghost use lib.ListN.{length, take};
-ghost use Rattle.devices.specs.Sections.{endOf, sectionTests};
+ghost use Rattle.devices.specs.Sections.{endOf, byLimit, sectionTests};
 ghost use Rattle.devices.specs.Tables.{ofSystems, ofParts, earlierParts, partsFrom};
-ghost use Rattle.verdict.specs.Orders.{inOrder, good, isGood, refusal};
-ghost use Rattle.verdict.specs.Refusals.{MANY};
+ghost use Rattle.verdict.specs.Orders.{inOrder, good, isGood};
 ghost use Rattle.lines.specs.Added.{Added};
 ghost use Rattle.lines.specs.Tables.{led, counted, goodSaid, earlierSaid, ofSaid, countCutSaid, manySaid, cutSaid, sectionSaid, sectionsSaid, ofEntry, placeSaid};
 ghost use Rattle.lines.specs.Tables.{ownNumber, whySaid, newlineSaid, tailSaid, whatSaid, refusedSaid, allSaid, fileName, unjudgedSaid};
@@ -61,7 +58,7 @@ fn put_good(row: &mut [u8], at: usize, systems: usize, parts: usize, bytes: usiz
 // What an earlier program says of a table that is good here: it reads fewer parts.
 fn put_earlier(row: &mut [u8], at: usize, parts: usize) -> usize
     requires { ⌜ at + 81 ≤ length (now row) ⌝ }
-    ensures { λ r. ⌜ Added (now (row .entry)) at (earlierSaid (cond (leb parts (earlierParts .limit)) good (refusal MANY 0))) (now (row .exit)) r ⌝ }
+    ensures { λ r. ⌜ Added (now (row .entry)) at (earlierSaid (byLimit (earlierParts .limit) parts)) (now (row .exit)) r ⌝ }
     ensures { λ r. ⌜ r ≤ at + 81 ⌝ }
 {
     if parts <= devices::EARLIER_MOST {
