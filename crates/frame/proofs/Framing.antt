@@ -10,7 +10,7 @@ use lib.Seq.{take_all}
 use Rattle.octets.specs.Sums.{total}
 use Rattle.verdict.specs.declared.Verdict.{Verdict}
 use Rattle.verdict.specs.Orders.{in_order, good}
-use Rattle.verdict.proofs.Walking.{in_order_lem}
+use Rattle.verdict.proofs.Walking.{ordering}
 use Rattle.frame.specs.Frame.{unit_length, ended, sum_of, summed, frame_tests_at, frame_tests}
 
 -- the tests at the length that was read
@@ -46,4 +46,4 @@ module _ (l : ℕ) (p : List ℕ) where
   unfolding summed
   sum-wrong s e m h = ne_eqb _ _ (λ q. h (sym (e ∙ sum_is p l m ∙ q)))
 
-pub ruleset framing = (in_order_lem, at_length, end-right, end-wrong, end-half, sum-right, sum-wrong)
+pub ruleset framing = (ordering, at_length, end-right, end-wrong, end-half, sum-right, sum-wrong)

@@ -3,7 +3,7 @@
 use Rattle.std.specs.Prelude.{ℕ, ◌+◌, ◌%◌, Bool, ◌&&◌, List, [], ◌∷◌, leb, eqb, length, get_or, take, drop}
 use Rattle.octets.specs.Numbers.{low_first}
 use Rattle.octets.specs.Sums.{total}
-use Rattle.verdict.specs.Orders.{Test, ◌or-else◌}
+use Rattle.verdict.specs.Orders.{Test, ◌or_else◌}
 use Rattle.verdict.specs.Refusals.{CUT, START, LENGTH, END, SUM}
 
 -- "A packet has 30+L bytes"

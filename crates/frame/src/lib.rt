@@ -1,4 +1,6 @@
 // A packet's frame: what its bytes 25 and 26, its end and its sum say, and its judge.
+#![tactic(auto)]
+
 ghost use Rattle.std.specs.Prelude.{◌≡◌, ◌<◌};
 ghost use Rattle.verdict.specs.Orders.{in_order, good};
 ghost use Rattle.frame.specs.Frame.{unit_length, frame_tests};

@@ -51,7 +51,7 @@ pub year-out : (s m h d o y : ℕ) (r : Bool) → r ≡ (leb 0 y && leb y 99) �
 year-out s m h d o y r e t =
     passed_over (0, 59) s _ _ (passed_over (0, 59) m _ _ (passed_over (0, 23) h _ _ (passed_over (1, 31) d _ _ (passed_over (1, 12) o _ _ (out_of_range 0 99 y [] [] r e t)))))
 
-pub ruleset in_ranges_lem = (out_of_range, in_range_lem, last-tested)
+pub ruleset ranging = (out_of_range, in_range_lem, last-tested)
 
 -- bytes that are all 0 are those in the range of 0 alone
 pub all_zero_lem : (bytes : List ℕ) → same bytes (replicate (length bytes) 0) ≡ in_ranges (replicate (length bytes) (0, 0)) bytes

@@ -1,4 +1,6 @@
 // The time label: six bytes by value, and the judgement of one.
+#![tactic(auto)]
+
 ghost use Rattle.std.specs.Prelude.{◌≡◌, ◌&&◌, eqb, leb, drop};
 ghost use Rattle.label.specs.Times.{label_of, label_bytes, ranges, in_ranges, is_no_time, judged, allowed, time_of, shown_as};
 

@@ -1,4 +1,6 @@
 // Bytes as the standard counts them: numbers low byte first, parts, bytes put into a lent row, and the sum.
+#![tactic(auto)]
+
 ghost use Rattle.std.specs.Prelude.{◌≡◌, ◌+◌, ◌*◌, ◌<◌, ◌≤◌, ◌%◌, length, get_or, take, drop};
 ghost use Rattle.octets.specs.Numbers.{Octets, low_first, bytes_of, signed_of, bits_of};
 ghost use Rattle.octets.specs.Parts.{part, part_place, put_at, one_by_one};

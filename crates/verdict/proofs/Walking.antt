@@ -37,4 +37,4 @@ flag-clear r b e n = sym e ∙ not-true r n
 
 pub ruleset compared = (lt-ltb, le-ltb, le-leb, lt-leb, eq-eqb, ne_eqb)
 
-pub ruleset in_order_lem = (goes-past, stops_at, comes-through, both_hold, first-fails, second-fails, flag-set, flag-clear, le-leb, lt-leb, eq-eqb, ne_eqb)
+pub ruleset ordering = (goes-past, stops_at, comes-through, both_hold, first-fails, second-fails, flag-set, flag-clear, le-leb, lt-leb, eq-eqb, ne_eqb)

@@ -35,8 +35,8 @@ pub record Test : Type 0 where
   pub holds : Bool
   pub refused : Verdict
 
-infix 20 ◌or-else◌
-abbrev pub ◌or-else◌ : Bool → ℕ → Test
+infix 20 ◌or_else◌
+abbrev pub ◌or_else◌ : Bool → ℕ → Test
 b or_else n = record { holds = b; refused = refusal n 0 }
 
 -- the verdict of the first test that fails, and where none does, what comes after them

@@ -1,4 +1,6 @@
 // A verdict, the refusals by number, and what every judge answers.
+#![tactic(auto)]
+
 ghost use Rattle.std.specs.Prelude.{◌≡◌};
 ghost use Rattle.verdict.specs.Refusals.{numbers};
 ghost use Rattle.verdict.specs.Orders.{good, refusal, is_good, no_part};

@@ -1,7 +1,0 @@
--- `label::within` meets its contract by its two tests. Assumes nothing.
-use borrow.Author.Tests.{le-leb, lt-leb}
-use Rattle.label.proofs.within.Statement.{statement}
-use Rattle.label.proofs.within.Tie as tie
-
-pub within-spec : {M : Type 1} → statement M
-within-spec = tie.close (tie.spec (λ c. simp (lt-leb _ _ c.if1.true)) (λ c. simp (le-leb _ _ c.if1.false)))
