@@ -17,7 +17,7 @@ use Rattle.unit.specs.Units.{judged_under}
 use Rattle.verdict.specs.declared.Verdict.{Verdict}
 use Rattle.verdict.specs.Orders.{in_order, good, is_good}
 use Rattle.verdict.proofs.Order.{stays, goes_on, good-held}
-use Rattle.verdict.proofs.Walking.{in_order_lem, flag-set, flag-clear}
+use Rattle.verdict.proofs.Walking.{ordering, flag-set, flag-clear}
 use Rattle.output.specs.Writing.{room_tests, field_tests, packet_verdict, written_packet}
 
 module _ (out : List ℕ) (l n : ℕ) where
@@ -86,6 +86,6 @@ module _ (rs : List Row) (out : List ℕ) (h : Header) (l : ℕ) where
     pub packet-there : is_good v ≡ true → 30 + l ≤ length out
     packet-there g = (packet-roomy (ap is_good (sym e) ∙ g)).1
 
-pub ruleset judging = (in_order_lem, room-decides, fields-decide, unit-judged, end_fits)
+pub ruleset judging = (ordering, room-decides, fields-decide, unit-judged, end_fits)
 
 pub ruleset writing = (flag-set, flag-clear, packet-kept, packet-sealed, packet-few, packet-there)

@@ -8,7 +8,7 @@ use Rattle.packet.specs.declared.Header.{Header}
 use Rattle.output.specs.Packets.{packet_bytes}
 use Rattle.unit.specs.Units.{is_command, judged_under}
 use Rattle.verdict.specs.declared.Verdict.{Verdict}
-use Rattle.verdict.specs.Orders.{Test, ◌or-else◌, in_order, is_good}
+use Rattle.verdict.specs.Orders.{Test, ◌or_else◌, in_order, is_good}
 use Rattle.verdict.specs.Refusals.{LENGTH, ROOM, COMMAND, TIME}
 
 -- LENGTH for "L over 1,024", ROOM for "output shorter than what is written"

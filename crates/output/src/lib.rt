@@ -1,5 +1,7 @@
 // The packet writer, and objects written into a packet's output.
-ghost use Rattle.std.specs.Prelude.{◌≡◌, ◌+◌, ◌≤◌};
+#![tactic(auto)]
+
+ghost use Rattle.std.specs.Prelude.{◌≡◌, ◌+◌, ◌≤◌, length as length_of};
 ghost use Rattle.kinds.specs.Table.{table, rows};
 ghost use Rattle.octets.specs.Parts.{part, put_at};
 ghost use Rattle.output.specs.Packets.{head_bytes, packet_bytes};
@@ -62,7 +64,7 @@ fn judge_room(out: &[u8], length: usize, beside: usize) -> Verdict
 // The bytes of a packet before its unit and behind it.
 fn fill(out: &mut [u8], header: Header, length: usize)
     requires length_len_bound { length ≤ 1024 }
-    requires* length_bound { do ⌜ 30 + length ≤ (← ⟦out.len()⟧) ⌝ }
+    requires length_bound { 30 + length ≤ length_of out.old }
     ensures { out.new ≡ put_at out.old 0 (packet_bytes header (part out.old 27 (27 + length))) }
 {
     let head = head_bytes(header, length);

@@ -16,7 +16,7 @@ use Rattle.verdict.proofs.Readings.{as_read}
 use Rattle.verdict.specs.declared.Verdict.{Verdict}
 use Rattle.verdict.specs.Orders.{in_order, good, is_good}
 use Rattle.verdict.proofs.Order.{stays, goes_on}
-use Rattle.verdict.proofs.Walking.{in_order_lem}
+use Rattle.verdict.proofs.Walking.{ordering}
 use Rattle.packet.specs.Frames.{command_of, unit_of, header_tests, judged_content, judged_packet}
 
 -- the label l that was read at a place, and whether it may stand
@@ -40,7 +40,7 @@ module _ (rs : List Row) (p : List ℕ) (v : Verdict) where
       ∙ ap (judged_under rs (command_of p)) (t ∙ ap (λ (k : ℕ). part p 27 (27 + k)) m)
 
 pub ruleset contents =
-    (in_order_lem, as_read, content-is, unit-decides, label-stands, label-falls)
+    (ordering, as_read, content-is, unit-decides, label-stands, label-falls)
 
 -- a frame that is refused, and one that is not: f is its verdict, g whether it is good
 module _ (rs : List Row) (p : List ℕ) (f : Verdict) (g : Bool) (framed : f ≡ in_order (frame_tests 1024 p) good) (told : g ≡ is_good f) where

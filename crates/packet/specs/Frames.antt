@@ -8,7 +8,7 @@ use Rattle.octets.specs.Parts.{part}
 use Rattle.unit.specs.Units.{is_command, judged_under}
 use Rattle.verdict.specs.declared.Verdict.{Verdict}
 use Rattle.verdict.specs.declared.Part.{Part}
-use Rattle.verdict.specs.Orders.{Test, ◌or-else◌, in_order, part_by}
+use Rattle.verdict.specs.Orders.{Test, ◌or_else◌, in_order, part_by}
 use Rattle.verdict.specs.Refusals.{VERSION, COMMAND, TIME}
 
 -- byte 27: "command"

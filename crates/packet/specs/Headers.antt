@@ -1,6 +1,6 @@
 -- A packet's header by value, read and written (document 01, "Packet"; document 02, Q-1).
 -- Assumes nothing.
-use Rattle.std.specs.Prelude.{ℕ, cond, List, [], length, get_or, take, drop, replicate}
+use Rattle.std.specs.Prelude.{ℕ, cond, List, [], get_or, take, drop, replicate}
 use Rattle.frame.specs.Frame.{unit_length}
 use Rattle.kinds.specs.declared.Row.{Row}
 use Rattle.label.specs.Times.{label_of, judged, shown_as, SHOWN_NOTHING}

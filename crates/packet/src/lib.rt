@@ -1,4 +1,6 @@
 // The packet: its judge, its header by value, and its unit as a part.
+#![tactic(auto)]
+
 ghost use Rattle.std.specs.Prelude.{◌≡◌, ◌≤◌, length};
 ghost use Rattle.kinds.specs.Table.{rows};
 ghost use Rattle.verdict.specs.Orders.{part_in, place_in};

@@ -5,7 +5,7 @@ use Rattle.frame.specs.Frame.{room}
 use Rattle.octets.specs.Searches.{all_zero}
 use Rattle.verdict.specs.declared.Verdict.{Verdict}
 use Rattle.verdict.specs.Refusals.{STATE, ROOM}
-use Rattle.verdict.specs.Orders.{Test, ◌or-else◌, in_order, good, is_good}
+use Rattle.verdict.specs.Orders.{Test, ◌or_else◌, in_order, good, is_good}
 use Rattle.reading.specs.declared.Event.{Event}
 use Rattle.reading.specs.declared.Event.TheVariants.{Refused}
 use Rattle.reading.specs.declared.Step.{Step}

@@ -1,4 +1,6 @@
 // What a stream of line bytes is read as: the events, and what a position and a run of bytes show.
+#![tactic(auto)]
+
 ghost use Rattle.std.specs.Prelude.{◌≡◌};
 ghost use Rattle.reading.specs.Values.{told};
 

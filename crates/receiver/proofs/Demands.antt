@@ -2,6 +2,7 @@
 -- hears a stream cut anywhere as the reading of the uncut one, in finitely many calls. Assumes nothing.
 use Prim.Native.Nat.{ℕ, ◌≤◌}
 use contract.Lifetimes.{Lfts}
+use denote.MutBor.{MutBor}
 use denote.Ref.{Bor}
 use mathlib.Core.List.{List}
 use mathlib.Core.Path.{◌≡◌, sym, ap, subst, ◌∙◌}
@@ -22,18 +23,18 @@ use Rattle.receiver.proofs.Receiver.receive.Reads as receive
 use Rattle.receiver.proofs.receive_lent.Reads as receive-lent
 use Rattle.receiver.proofs.clear_lent.Reads as clear-lent
 
-pub receive-determined : (κs : Lfts 2) (x : Receiver) (piece out o p : Bor (List ℕ)) (r s : Received)
+pub receive-determined : (κs : Lfts 2) (x : Receiver) (piece : Bor (List ℕ)) (out o p : MutBor (List ℕ)) (r s : Received)
     → receive.Post κs (x, (piece, (out, tt))) r (x, (piece, (o, tt))) → receive.Post κs (x, (piece, (out, tt))) s (x, (piece, (p, tt)))
     → (r ≡ s) × (o.now ≡ p.now)
 receive-determined κs x piece out o p r s a b = (a.0 ∙ sym b.0, a.1 ∙ sym b.1)
 
-pub lent-determined : (κs : Lfts 3) (hold h k : Bor (List ℕ)) (held skipped : ℕ) (piece out o p : Bor (List ℕ)) (r s : Served)
+pub lent-determined : (κs : Lfts 3) (hold h k : MutBor (List ℕ)) (held skipped : ℕ) (piece : Bor (List ℕ)) (out o p : MutBor (List ℕ)) (r s : Served)
     → receive-lent.Post κs (hold, (held, (skipped, (piece, (out, tt))))) r (h, (held, (skipped, (piece, (o, tt)))))
     → receive-lent.Post κs (hold, (held, (skipped, (piece, (out, tt))))) s (k, (held, (skipped, (piece, (p, tt)))))
     → (r ≡ s) × (h.now ≡ k.now) × (o.now ≡ p.now)
 lent-determined κs hold h k held skipped piece out o p r s a b = (a.0 ∙ sym b.0, a.1.0 ∙ sym b.1.0, a.1.1 ∙ sym b.1.1)
 
-pub clear-determined : (κs : Lfts 1) (hold h k : Bor (List ℕ)) (r s : _) → clear-lent.Post κs (hold, tt) r (h, tt) → clear-lent.Post κs (hold, tt) s (k, tt) → h.now ≡ k.now
+pub clear-determined : (κs : Lfts 1) (hold h k : MutBor (List ℕ)) (r s : _) → clear-lent.Post κs (hold, tt) r (h, tt) → clear-lent.Post κs (hold, tt) s (k, tt) → h.now ≡ k.now
 clear-determined κs hold h k r s a b = a ∙ sym b
 
 -- how a caller lends: at its i-th call the lifetimes, a reference to the bytes of a piece, and a buffer of 1,054 bytes or more
@@ -41,36 +42,36 @@ pub record Lending (n : ℕ) : Type 0 where
   pub lifetimes : ℕ → Lfts n
   pub piece : ℕ → List ℕ → Bor (List ℕ)
   pub is-piece : (i : ℕ) (l : List ℕ) → (piece i l).now ≡ l
-  pub out : ℕ → Bor (List ℕ)
+  pub out : ℕ → MutBor (List ℕ)
   pub roomy : (i : ℕ) → 1054 ≤ length (out i).now
 
 -- and where it keeps the hold
 pub record Holding : Type 0 where
-  pub hold : ℕ → List ℕ → Bor (List ℕ)
+  pub hold : ℕ → List ℕ → MutBor (List ℕ)
   pub is-hold : (i : ℕ) (l : List ℕ) → (hold i l).now ≡ l
 
 -- BY VALUE: an answer of `receive` and a buffer at exit that meet its contract
-pub record Answered (κs : Lfts 2) (x : Receiver) (piece out : Bor (List ℕ)) : Type 0 where
+pub record Answered (κs : Lfts 2) (x : Receiver) (piece : Bor (List ℕ)) (out : MutBor (List ℕ)) : Type 0 where
   pub answer : Received
-  pub left : Bor (List ℕ)
+  pub left : MutBor (List ℕ)
   pub meets : receive.Post κs (x, (piece, (out, tt))) answer (x, (piece, (left, tt)))
 
 -- a receiver that meets the contract: its i-th call is answered from every state that keeps the rules, whatever the piece and the buffer (what the
 -- types rule out may be answered anyhow by the contract)
 abbrev pub Answers : Type 0
-Answers = (i : ℕ) (κs : Lfts 2) (x : Receiver) (piece out : Bor (List ℕ)) → Good 1024 (given x) → Answered κs x piece out
+Answers = (i : ℕ) (κs : Lfts 2) (x : Receiver) (piece : Bor (List ℕ)) (out : MutBor (List ℕ)) → Good 1024 (given x) → Answered κs x piece out
 
 -- an answer with its buffer
 abbrev pub answer_of : Received → List ℕ → Answer
 answer_of r out = record { event = r.event; skipped = r.skipped; taken = r.taken; state = given r.state; out = out }
 
-answer-is : (κs : Lfts 2) (x : Receiver) (piece out o : Bor (List ℕ)) (r : Received) → receive.Post κs (x, (piece, (out, tt))) r (x, (piece, (o, tt)))
+answer-is : (κs : Lfts 2) (x : Receiver) (piece : Bor (List ℕ)) (out o : MutBor (List ℕ)) (r : Received) → receive.Post κs (x, (piece, (out, tt))) r (x, (piece, (o, tt)))
     → answer_of r o.now ≡ called 1024 (given x) piece.now out.now
 answer-is κs x piece out o r p =
     λ n. record { event = (p.0 n).event; skipped = (p.0 n).skipped; taken = (p.0 n).taken; state = given (p.0 n).state; out = p.1 n }
 
 -- from a state that keeps the rules, with a buffer of 1,054 bytes or more, no call is refused, and one that gives an event leaves fewer bytes held and offered
-pub receive-on : (κs : Lfts 2) (x : Receiver) (piece out o : Bor (List ℕ)) (r : Received) → Good 1024 (given x) → 1054 ≤ length out.now
+pub receive-on : (κs : Lfts 2) (x : Receiver) (piece : Bor (List ℕ)) (out o : MutBor (List ℕ)) (r : Received) → Good 1024 (given x) → 1054 ≤ length out.now
     → receive.Post κs (x, (piece, (out, tt))) r (x, (piece, (o, tt))) → GoesOn 1024 (given x) piece.now (answer_of r o.now)
 unfolding room
 receive-on κs x piece out o r g h p =
@@ -103,19 +104,19 @@ demand-3 box by x e pieces =
 
 -- ON A LENT HOLD: the hold, the held length and the count, a piece and a buffer, at entry and at exit of a call
 abbrev pub Lent : Type 0
-Lent = Bor (List ℕ) × (ℕ × (ℕ × (Bor (List ℕ) × (Bor (List ℕ) × Unit {0}))))
+Lent = MutBor (List ℕ) × (ℕ × (ℕ × (Bor (List ℕ) × (MutBor (List ℕ) × Unit {0}))))
 
 -- an answer and a hold and a buffer at exit that meet a call's contract
-pub record Serving {R : Type 0} (Post : Lfts 3 → Lent → R → Lent → Type 0) (κs : Lfts 3) (hold : Bor (List ℕ)) (held skipped : ℕ)
-    (piece out : Bor (List ℕ)) : Type 0 where
+pub record Serving {R : Type 0} (Post : Lfts 3 → Lent → R → Lent → Type 0) (κs : Lfts 3) (hold : MutBor (List ℕ)) (held skipped : ℕ)
+    (piece : Bor (List ℕ)) (out : MutBor (List ℕ)) : Type 0 where
   pub answer : R
-  pub kept : Bor (List ℕ)
-  pub left : Bor (List ℕ)
+  pub kept : MutBor (List ℕ)
+  pub left : MutBor (List ℕ)
   pub meets : Post κs (hold, (held, (skipped, (piece, (out, tt))))) answer (kept, (held, (skipped, (piece, (left, tt)))))
 
 -- a receiver that meets a call's contract: its i-th call is answered from every state that keeps the rules, whatever the piece and the buffer
 abbrev pub Serves : {R : Type 0} → (Lfts 3 → Lent → R → Lent → Type 0) → Type 0
-Serves Post = (i : ℕ) (κs : Lfts 3) (hold : Bor (List ℕ)) (held skipped : ℕ) (piece out : Bor (List ℕ)) → Good 1024 (lent hold.now held skipped)
+Serves Post = (i : ℕ) (κs : Lfts 3) (hold : MutBor (List ℕ)) (held skipped : ℕ) (piece : Bor (List ℕ)) (out : MutBor (List ℕ)) → Good 1024 (lent hold.now held skipped)
     → Serving Post κs hold held skipped piece out
 
 -- its answers, as it is lent to
@@ -130,7 +131,7 @@ serving Post box in-hold by i st piece g =
 abbrev pub served_in : Served → List ℕ → List ℕ → Answer
 served_in r hold out = record { event = r.event; skipped = r.skipped; taken = r.taken; state = lent hold r.held r.count; out = out }
 
-served-is : (κs : Lfts 3) (hold h : Bor (List ℕ)) (held skipped : ℕ) (piece out o : Bor (List ℕ)) (r : Served)
+served-is : (κs : Lfts 3) (hold h : MutBor (List ℕ)) (held skipped : ℕ) (piece : Bor (List ℕ)) (out o : MutBor (List ℕ)) (r : Served)
     → receive-lent.Post κs (hold, (held, (skipped, (piece, (out, tt))))) r (h, (held, (skipped, (piece, (o, tt)))))
     → served_in r h.now o.now ≡ called 1024 (lent hold.now held skipped) piece.now out.now
 served-is κs hold h held skipped piece out o r p =
@@ -142,7 +143,7 @@ served-is κs hold h held skipped piece out o r p =
       out = p.1.1 n;
     }
 
-pub lent-on : (κs : Lfts 3) (hold h : Bor (List ℕ)) (held skipped : ℕ) (piece out o : Bor (List ℕ)) (r : Served)
+pub lent-on : (κs : Lfts 3) (hold h : MutBor (List ℕ)) (held skipped : ℕ) (piece : Bor (List ℕ)) (out o : MutBor (List ℕ)) (r : Served)
     → Good 1024 (lent hold.now held skipped) → 1054 ≤ length out.now
     → receive-lent.Post κs (hold, (held, (skipped, (piece, (out, tt))))) r (h, (held, (skipped, (piece, (o, tt)))))
     → GoesOn 1024 (lent hold.now held skipped) piece.now (served_in r h.now o.now)
@@ -158,7 +159,7 @@ served box in-hold by i st piece g =
     served_in a.answer a.kept.now a.left.now
 
 -- DEMAND 3, of every receiver that meets `receive_lent`'s contract, from the hold that `clear_lent` makes
-pub demand-3-lent : (box : Serves receive-lent.Post) (in-hold : Holding) (by : Lending 3) (κs : Lfts 1) (row hold : Bor (List ℕ)) (r : _) → clear-lent.Post κs (row, tt) r (hold, tt)
+pub demand-3-lent : (box : Serves receive-lent.Post) (in-hold : Holding) (by : Lending 3) (κs : Lfts 1) (row hold : MutBor (List ℕ)) (r : _) → clear-lent.Post κs (row, tt) r (hold, tt)
     → (pieces : List (List ℕ))
     → CutAnywhere 1024 (calls_of 1024 (served box in-hold by)) (lent hold.now 0 0) pieces (reading 1024 0 0 (joined pieces)) (reading 1024 0 0 (joined pieces)).heard
 unfolding room

@@ -1,4 +1,6 @@
 // The stream receiver: by value, and on a lent hold.
+#![tactic(auto)]
+
 ghost use Rattle.std.specs.Prelude.{◌≡◌};
 ghost use Rattle.reading.specs.Calls.{fresh, called};
 ghost use Rattle.receiver.specs.Receivers.{given, lent, receiver_of, received_of, served_of};

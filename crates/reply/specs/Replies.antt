@@ -11,7 +11,7 @@ use Rattle.packet.specs.Frames.{command_of, judged_content}
 use Rattle.packet.specs.Headers.{header_of}
 use Rattle.output.specs.Packets.{packet_bytes}
 use Rattle.verdict.specs.declared.Verdict.{Verdict}
-use Rattle.verdict.specs.Orders.{Test, ◌or-else◌, in_order, good, is_good}
+use Rattle.verdict.specs.Orders.{Test, ◌or_else◌, in_order, good, is_good}
 use Rattle.verdict.specs.Refusals.{TIME, ROOM}
 use Rattle.reply.specs.declared.Due.{Due}
 use Rattle.reply.specs.declared.Due.TheVariants.{Nothing, Confirm, Deny}

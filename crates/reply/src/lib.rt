@@ -1,4 +1,6 @@
 // The reply maker.
+#![tactic(auto)]
+
 ghost use Rattle.std.specs.Prelude.{◌≡◌};
 ghost use Rattle.kinds.specs.Table.{rows};
 ghost use Rattle.packet.specs.Headers.{header_of};

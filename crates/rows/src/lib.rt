@@ -1,4 +1,6 @@
 // Operations on rows of bytes: parts, tests, runs, zeros.
+#![tactic(auto)]
+
 ghost use Rattle.std.specs.Prelude.{◌≡◌, ◌-◌, min, length, take, drop, replicate};
 ghost use Rattle.octets.specs.Searches.{all_zero};
 ghost use Rattle.rows.specs.Runs.{span_place, noise_run, plain_run, no64};
