@@ -18,7 +18,7 @@ use Rattle.place.specs.Rules.{FREE, SEND, REQUEST, is_open}
 use Rattle.places.specs.Rows.{end_of}
 use Rattle.unit.specs.Units.{is_command, judged_under}
 use Rattle.verdict.specs.declared.Verdict.{Verdict}
-use Rattle.verdict.specs.Orders.{Test, ◌or-else◌, good, refusal, is_good, in_order}
+use Rattle.verdict.specs.Orders.{Test, ◌or_else◌, good, refusal, is_good, in_order}
 use Rattle.verdict.specs.Refusals.{STATE, ROOM, LENGTH, COMMAND, TIME, FULL, CENTRE}
 use Rattle.verdict.proofs.Order.{passed, failed, joined, good-held, held-good, stays, goes_on}
 use Rattle.exchange.specs.declared.Begun.{Begun}

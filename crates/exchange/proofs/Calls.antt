@@ -40,7 +40,7 @@ use Rattle.exchange.specs.declared.Replied.{Replied}
 use Rattle.exchange.specs.declared.Ticked.{Ticked}
 use Rattle.exchange.specs.Begins.{headed_by, mode_of, begun_verdict, unbegun, begun, begun_output}
 use Rattle.exchange.specs.Table.{centre_at, address_at, next_at, centre_of, settled, legal, blank, made, unfound, found}
-use Rattle.exchange.specs.Table.{entered, placed, fitting_of, stepped, untold, stepped_by, answered, reach_of, unreached, unticked, ticking}
+use Rattle.exchange.specs.Table.{entered, placed, stepped, untold, stepped_by, answered, reach_of, unreached, unticked, ticking}
 use Rattle.exchange.proofs.Answers.{made-refused, made-good, found-state, found-outside, found-full, found-good, Inside, found_inside}
 use Rattle.exchange.proofs.Answers.{answered-state, answered-outside, answered-stray, answered-good, answered-ways, ticking-state, ticking-by, after-tick}
 use Rattle.exchange.proofs.Begins.{draft-judged, find-decides, draft-decides, taken_by_lem, begun-refused, output-kept, opening-at, begun-good, output-written, begun-few}

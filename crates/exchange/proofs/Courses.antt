@@ -38,7 +38,7 @@ pub record Goes (t r k s : ℕ) (p q : Place) (l : Line) : Type 0 where
 -- the line that ends it
 pub record Last (t r k s : ℕ) (p : Place) (l : Line) : Type 0 where
   pub told : ends k l ≡ true
-  pub is_end_lem : is_end (tells k l) ≡ true
+  pub is_last : is_end (tells k l) ≡ true
   pub resent : resends k l ≡ false
   pub spent : tells k l ≡ FAILED → p.resends ≡ r
   pub exactly : answers k l ≡ false → (tells k l ≡ FAILED) × (left t r p ≡ cond (is_tick l) 1 0)
@@ -117,7 +117,7 @@ course k here (next {x} {y} {l} {ls} a rest) sound o = by_turn turned.turn (cour
         over-at {l = l} (alive t r p o turned.kept)
         (record {
           told = simp stops.0;
-          is_end_lem = h.told;
+          is_last = h.told;
           resent = stops.1;
           spent = h.spent;
           exactly = h.exactly;

@@ -21,7 +21,7 @@ use Rattle.packet.specs.declared.Header.{Header}
 use Rattle.unit.proofs.Under.{under-other}
 use Rattle.verdict.specs.declared.Verdict.{Verdict}
 use Rattle.verdict.specs.Refusals.{STATE, FULL, CENTRE}
-use Rattle.verdict.specs.Orders.{◌or-else◌, is_good}
+use Rattle.verdict.specs.Orders.{◌or_else◌, is_good}
 use Rattle.verdict.proofs.Order.{passed, other-number}
 use Rattle.place.specs.declared.Place.{Place}
 use Rattle.place.specs.declared.Reply.{Reply}

@@ -21,7 +21,7 @@ use Rattle.exchange.proofs.Turns.{Own}
 module _ (n m k : ℕ) (l : Line) (ls : List Line) (few : count is_tick (up_to (ends k) (l ∷ ls)) < n) where
   ended_here : ends k l ≡ true → is_end (tells k l) ≡ true → (tells k l ≡ FAILED → count (resends k) (life k (l ∷ ls)) ≡ m) → Quiet k ls → Ended n m k (l ∷ ls)
   unfolding up_to life
-  ended_here e h f q = record { last = l; later = ls; split = simp e; whole = simp e; is_end_lem = h; spent = f; in_time = few; silent = q }
+  ended_here e h f q = record { last = l; later = ls; split = simp e; whole = simp e; is_last = h; spent = f; in_time = few; silent = q }
 
   ended-later : (i j : ℕ) (d : Ended i j k ls) → ends k l ≡ false → (tells k d.last ≡ FAILED → count (resends k) (life k (l ∷ ls)) ≡ m) → Ended n m k (l ∷ ls)
   unfolding up_to life
@@ -31,7 +31,7 @@ module _ (n m k : ℕ) (l : Line) (ls : List Line) (few : count is_tick (up_to (
         later = d.later;
         split = simp e (ap (λ (s : List Line). l ∷ s) d.split);
         whole = simp e (ap (λ (s : List Line). l ∷ s) d.whole);
-        is_end_lem = d.is-end;
+        is_last = d.is_last;
         spent = f;
         in_time = few;
         silent = d.silent;
@@ -80,7 +80,7 @@ module _ (t r k s : ℕ) where
     at_once : Alive t r p → Last t r k s p l → Quiet k ls → Ends
     unfolding count life
     at_once a e q =
-        ended_here (left t r p) (r - p.resends) k l ls (in_time (over-at {ls = ls} a e q)) e.told e.is-end
+        ended_here (left t r p) (r - p.resends) k l ls (in_time (over-at {ls = ls} a e q)) e.told e.is_last
         (λ f. simp (e.told, e.resent) (omega (arith, e.spent f))) q
 
     in-the-end : (q : Place) → Alive t r p → Goes t r k s p q l → Course t r k s q ls → Ended (left t r q) (r - q.resends) k ls → Ends

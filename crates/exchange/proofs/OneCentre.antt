@@ -1,7 +1,7 @@
 -- What differs from release 1.2, where one centre had all sixteen places, 0 up to 16, and no address was looked at: with no exchange of the second centre
 -- open the rules, the place and serial of a beginning and the place that a reply fits are those of 1.2, but that a ninth exchange is FULL and that
 -- a reply counts only from the centre's address. By the searches over both ranges. Assumes nothing.
-use Prim.Native.Nat.{ℕ, ◌-◌, ◌≤◌, ◌<◌}
+use Prim.Native.Nat.{ℕ, ◌≤◌, ◌<◌}
 use native.Mathlib.Omega.{arith}
 use mathlib.Core.Bool.{true, false, not, false≢true, true≢false}
 use mathlib.Core.List.{List}
@@ -14,7 +14,6 @@ use Rattle.octets.proofs.Searches.{first_to, first_fits, first-none, first_absen
 use Rattle.place.specs.declared.Place.{Place}
 use Rattle.place.specs.declared.Reply.{Reply}
 use Rattle.place.specs.Rules.{free, is_open, holds}
-use Rattle.place.specs.Steps.{fits}
 use Rattle.place.proofs.Kept.{fits-holds, free-holds}
 use Rattle.places.specs.Rows.{place_at, free_at, holds_at, fits_at, lowest_free, is_open_as, unopened, upward, serial_for, fitting, are_sound}
 use Rattle.places.proofs.Rules.{each_keep, apart-once}

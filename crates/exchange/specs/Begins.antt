@@ -7,7 +7,7 @@ use Rattle.output.specs.Writing.{room_tests, packet_verdict, written_packet}
 use Rattle.packet.specs.declared.Header.{Header}
 use Rattle.place.specs.Rules.{FREE, SEND, REQUEST, is_open}
 use Rattle.verdict.specs.declared.Verdict.{Verdict}
-use Rattle.verdict.specs.Orders.{Test, ◌or-else◌, in_order, is_good}
+use Rattle.verdict.specs.Orders.{Test, ◌or_else◌, in_order, is_good}
 use Rattle.verdict.specs.Refusals.{COMMAND}
 use Rattle.exchange.specs.declared.Begun.{Begun}
 use Rattle.exchange.specs.declared.Draft.{Draft}

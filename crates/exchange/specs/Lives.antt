@@ -31,7 +31,7 @@ pub record Ended (n m k : ℕ) (ls : List Line) : Type 0 where
   pub later : List Line
   pub split : ls ≡ up_to (ends k) ls ++ (last ∷ later)
   pub whole : life k ls ≡ up_to (ends k) ls ++ (last ∷ [])
-  pub is_end_lem : is_end (tells k last) ≡ true
+  pub is_last : is_end (tells k last) ≡ true
   pub spent : tells k last ≡ FAILED → count (resends k) (life k ls) ≡ m
   pub in_time : count is_tick (up_to (ends k) ls) < n
   pub silent : count (speaks k) (up_to (begins k) later) ≡ 0

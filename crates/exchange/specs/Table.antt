@@ -4,7 +4,7 @@ use Rattle.std.specs.Prelude.{ℕ, Bool, not, ◌&&◌, cond, List, [], ◌∷�
 use Rattle.octets.specs.Searches.{first_fit, same}
 use Rattle.verdict.specs.declared.Verdict.{Verdict}
 use Rattle.verdict.specs.Refusals.{STATE, SETTING, FULL, STRAY, CENTRE}
-use Rattle.verdict.specs.Orders.{Test, refusal, good, is_good, in_order, ◌or-else◌}
+use Rattle.verdict.specs.Orders.{Test, refusal, good, is_good, in_order, ◌or_else◌}
 use Rattle.place.specs.declared.Place.{Place}
 use Rattle.place.specs.declared.Reply.{Reply}
 use Rattle.place.specs.Rules.{free, opened}

@@ -1,4 +1,6 @@
 // The exchange table: beginning an exchange and writing its packet, a reply to one, and the tick.
+#![tactic(auto)]
+
 ghost use Rattle.std.specs.Prelude.{◌≡◌, cond, ◌<◌};
 ghost use Rattle.kinds.specs.Table.{rows};
 ghost use Rattle.octets.specs.Searches.{same};

@@ -2,7 +2,7 @@
 -- Assumes nothing.
 use Rattle.std.specs.Prelude.{ℕ, List, [], ◌∷◌, leb, length}
 use Rattle.verdict.specs.declared.Part.{Part}
-use Rattle.verdict.specs.Orders.{◌or-else◌, in_order, good, part_by}
+use Rattle.verdict.specs.Orders.{◌or_else◌, in_order, good, part_by}
 use Rattle.verdict.specs.Refusals.{ROOM}
 
 -- ROOM: "other output shorter than what is written"

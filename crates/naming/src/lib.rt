@@ -1,4 +1,6 @@
 // The names of refusals, events and outcomes, as the programs print them and as a lent row receives them.
+#![tactic(auto)]
+
 ghost use Rattle.std.specs.Prelude.{◌≡◌};
 ghost use Rattle.octets.specs.Parts.{put_at};
 ghost use Rattle.naming.specs.Names.{verdicts, letters_in, letters, named, name_of};
@@ -14,6 +16,7 @@ pub struct Name {
 }
 
 // A number's name by value, of no bytes where the number has none.
+#[tactic(auto, unfolding(crate::specs::Names::letters_in, crate::specs::Names::letters, crate::specs::Names::name_of))]
 pub fn name_of(number: u8) -> Name
     ensures { result ≡ name_of number }
 {
@@ -30,6 +33,7 @@ pub fn name_of(number: u8) -> Name
 }
 
 // OK, or a refusal's name.
+#[tactic(auto, unfolding(crate::specs::Names::letters_in))]
 fn verdict_name(number: u8) -> Name
     ensures { result ≡ named (letters_in verdicts number) }
 {

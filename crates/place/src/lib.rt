@@ -1,4 +1,6 @@
 // One place of the exchange table, and what a reply and a denial make of it.
+#![tactic(auto)]
+
 ghost use Rattle.std.specs.Prelude.{◌≡◌, eqb};
 ghost use Rattle.place.specs.Rules.{free, is_open, is_zero, weight};
 ghost use Rattle.place.specs.Steps.{outcomes, awaits, denied, replied};

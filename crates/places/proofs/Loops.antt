@@ -1,5 +1,5 @@
 -- The pass over the places and the search for a serial: what holds at a turn, at first, one turn more, and at each way out. Assumes nothing.
-use Prim.Native.Nat.{ℕ, zero, suc, ◌+◌, ◌*◌, ◌-◌, ◌≤◌, ◌<◌}
+use Prim.Native.Nat.{ℕ, ◌+◌, ◌*◌, ◌-◌, ◌≤◌, ◌<◌}
 use native.Mathlib.Omega.{arith}
 use mathlib.Core.Bool.{Bool, true, false, not, ◌&&◌, false≢true}
 use mathlib.Core.List.{List}
@@ -130,13 +130,13 @@ module _ (t r : ℕ) (ps : List Place) where
 
       -- b is whether its serial stands in the row
       module _ (m : not k ≡ false) (b : Bool) (told : (b ≡ stands_in row (low_of (owner_of (i - 1))) p.serial) × (p.serial < 65536)) where
-        is_open_lem : is_open p.mode ≡ true
-        is_open_lem = kept-open p t r (on keeping m) nonzero
+        own_open : is_open p.mode ≡ true
+        own_open = kept-open p t r (on keeping m) nonzero
 
         double-is : b ≡ double_at ps (end_of (owner_of (i - 1))) (i - 1)
         double-is =
             told.0
-            ∙ sym (simp is_open_lem)
+            ∙ sym (simp own_open)
             ∙ double-by-row ps row i (i - 1) (low_of (owner_of (i - 1))) (omega arith) (omega (arith, s.few)) (omega arith) (omega arith) told.1 s.held
 
         one-double : b ≡ true → false ≡ all_sound t r ps
@@ -148,7 +148,7 @@ module _ (t r : ℕ) (ps : List Place) where
         -- an open one
         pub looked-open : b ≡ false → Looked t r ps (set row (i - 1) p.serial) (i - 1)
         looked-open f =
-            let own : held_by p ≡ p.serial = simp is_open_lem in
+            let own : held_by p ≡ p.serial = simp own_open in
             record {
               few = omega (arith, s.few);
               long = length-set row (i - 1) p.serial ∙ s.long;

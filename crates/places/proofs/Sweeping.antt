@@ -41,7 +41,7 @@ pub record SweptTo (t r : ℕ) (ps now : List Place) (reports : List Report) (i 
 
 -- the place before i is open, and a step that it takes is one more
 pub record Tested (t r : ℕ) (ps now : List Place) (reports : List Report) (i : ℕ) : Type 0 where
-  pub is_open_lem : true ≡ is_open (place_at ps (i - 1)).mode
+  pub open_now : true ≡ is_open (place_at ps (i - 1)).mode
   pub one-swept : (step : Step) → step ≡ ticked t r (place_at ps (i - 1))
       → SweptTo t r ps (set now (i - 1) step.place) (set reports (i - 1) (record { outcome = step.outcome; serial = (place_at ps (i - 1)).serial })) (i - 1)
 
@@ -52,7 +52,7 @@ module _ (t r : ℕ) (ps now : List Place) (reports : List Report) (i : ℕ) (z 
   pub older-swept : (a : ℕ) (x : Report) → own.age + 1 < t → a ≡ own.age + 1 → x ≡ record { outcome = NOTHING; serial = own.serial }
       → SweptTo t r ps (set now (i - 1) (counted own.resends a own)) (set reports (i - 1) x) (i - 1)
   older-swept a x h e f =
-      let s = z.one-swept (becomes (one_older own) NOTHING) (older own true z.is_open t r refl h) in
+      let s = z.one-swept (becomes (one_older own) NOTHING) (older own true z.open_now t r refl h) in
       subst⁻¹ (λ (y : ℕ). SweptTo t r ps (set now (i - 1) (counted own.resends y own)) (set reports (i - 1) x) (i - 1)) e
       (subst⁻¹ (λ (y : Report). SweptTo t r ps (set now (i - 1) (one_older own)) (set reports (i - 1) y) (i - 1)) f s)
 
@@ -60,7 +60,7 @@ module _ (t r : ℕ) (ps now : List Place) (reports : List Report) (i : ℕ) (z 
       → SweptTo t r ps (set now (i - 1) step.place) (set reports (i - 1) x) (i - 1)
   denied-swept step x h e f =
       subst⁻¹ (λ (y : Report). SweptTo t r ps (set now (i - 1) step.place) (set reports (i - 1) y) (i - 1)) f
-      (z.one-swept step (run_out own true z.is_open t r step refl h e))
+      (z.one-swept step (run_out own true z.open_now t r step refl h e))
 
 module _ (t r : ℕ) (ps : List Place) (long : length ps ≡ 16) where
   pub none-swept : (reports : List Report) → reports ≡ replicate 16 nothing → SweptTo t r ps ps reports 16
@@ -95,7 +95,7 @@ module _ (t r : ℕ) (ps : List Place) (long : length ps ≡ 16) where
     pub tested-open : (k : Bool) → k ≡ is_open p.mode && (ltb p.age t && leb p.resends r) → not k ≡ false → Tested t r ps now reports i
     tested-open k open_kept n =
         record {
-          is_open_lem = sym ((and-eq-true_iff (is_open p.mode) (ltb p.age t && leb p.resends r)).0 (on open_kept n)).0;
+          open_now = sym ((and-eq-true_iff (is_open p.mode) (ltb p.age t && leb p.resends r)).0 (on open_kept n)).0;
           one-swept = one-swept;
         }
 

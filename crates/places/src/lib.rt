@@ -1,4 +1,6 @@
 // The searches over a centre's places, and the tick of all of them.
+#![tactic(auto)]
+
 ghost use Rattle.std.specs.Prelude.{◌≡◌, ◌&&◌, ◌+◌, ◌%◌, ◌≤◌, ◌<◌, ltb, leb, replicate};
 ghost use Rattle.octets.specs.Searches.{first_fit};
 ghost use Rattle.place.specs.Rules.{is_open};
@@ -59,6 +61,7 @@ fn stands_in(row: &[u32; 16], from: usize, serial: u16) -> bool
 }
 
 // Whether the serial of a place stands among those of its centre, each of which has left its mark: one without a mark is not looked for.
+#[tactic(auto, using(crate::proofs::Marks::unmarked))]
 fn is_taken(marks: &[u8; 16], row: &[u32; 16], k: usize, serial: u16) -> bool
     requires k_bound { k < 16 }
     requires marked { Marked marks.now row.now (low_of (owner_of k)) }

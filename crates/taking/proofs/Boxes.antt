@@ -68,14 +68,14 @@ box-parted c d u v other l =
     as-reply : List ℕ → Reply → Call
     as-reply p w = reply (header_of p).source (header_of p).serial w
 
-    taken_as_lem : Role → Exchanges → List ℕ → Replied
-    taken_as_lem r x p = taken_as r x (header_of p).source (header_of p).serial (judged_packet rows p)
+    taken_so : Role → Exchanges → List ℕ → Replied
+    taken_so r x p = taken_as r x (header_of p).source (header_of p).serial (judged_packet rows p)
 
     by_address : (x : Exchanges) → Sound x → (k : BoxCall) → address_at (box_after x k) d ≡ address_at x d
     by_address x sx (own k) = calls.address x sx k
     by_address x sx (packet p) = by-role (role_of rows p)
       where
-        by-role : (r : Role) → address_at (taken_as_lem r x p).state d ≡ address_at x d
+        by-role : (r : Role) → address_at (taken_so r x p).state d ≡ address_at x d
         by-role (Is w) = calls.address x sx (as-reply p w)
         by-role Other = refl
 
@@ -83,7 +83,7 @@ box-parted c d u v other l =
     by_left x sx e (own k) q = calls.left x sx e k q
     by_left x sx e (packet p) q = by-role (role_of rows p)
       where
-        by-role : (r : Role) → Alike c (taken_as_lem r x p).state x
+        by-role : (r : Role) → Alike c (taken_so r x p).state x
         by-role (Is w) = calls.left x sx e (as-reply p w) q
         by-role Other = alike_self c x
 
@@ -95,7 +95,7 @@ box-parted c d u v other l =
         shown : Replied → Answer
         shown z = to_reply z.verdict z.place z.outcome
 
-        by-role : (r : Role) → (shown (taken_as_lem r x p) ≡ shown (taken_as_lem r y p)) × (Alike c (taken_as_lem r x p).state (taken_as_lem r y p).state)
+        by-role : (r : Role) → (shown (taken_so r x p) ≡ shown (taken_so r y p)) × (Alike c (taken_so r x p).state (taken_so r y p).state)
         by-role (Is w) = calls.kept x y sx sy a e (as-reply p w) q
         by-role Other = (refl, a)
 

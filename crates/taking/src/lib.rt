@@ -1,4 +1,6 @@
 // What a received packet is to the exchange table, and the step that the table takes by it.
+#![tactic(auto)]
+
 ghost use Rattle.std.specs.Prelude.{◌≡◌, true};
 ghost use Rattle.kinds.specs.Table.{rows};
 ghost use Rattle.exchange.specs.Table.{untold};
