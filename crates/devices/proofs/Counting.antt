@@ -9,7 +9,7 @@ use borrow.Author.Tests.{le-leb, lt-leb}
 use lib.Dec.{leb}
 use lib.ListN.{length, take, drop}
 use Rattle.octets.specs.Numbers.{low_first}
-use Rattle.verdict.proofs.Walking.{in_order_lem}
+use Rattle.verdict.proofs.Walking.{ordering}
 use Rattle.devices.specs.declared.Section.{Section}
 use Rattle.devices.specs.Sections.{count_at, entry_at, end_of}
 
@@ -47,4 +47,4 @@ module _ (t : List ℕ) (from : ℕ) where
       pub entries-cut : length t - from - 2 < n * z.entry → leb (end_of z t from) (length t) ≡ false
       entries-cut h = lt-leb (end_of z t from) (length t) (omega (arith, ends))
 
-pub ruleset counting = (in_order_lem, count-there, count_cut, count-few, count-many, entries-there, entries-cut)
+pub ruleset counting = (ordering, count-there, count_cut, count-few, count-many, entries-there, entries-cut)

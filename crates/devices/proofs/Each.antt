@@ -9,7 +9,7 @@ use mathlib.Core.Logic.{⊎_elim}
 use mathlib.Core.Path.{◌≡◌, refl, sym, ap, subst, ◌∙◌}
 use Rattle.verdict.specs.declared.Verdict.{Verdict}
 use Rattle.verdict.specs.Orders.{Test, in_order, good, Held, refusing}
-use Rattle.verdict.proofs.Walking.{in_order_lem}
+use Rattle.verdict.proofs.Walking.{ordering}
 use Rattle.verdict.proofs.Order.{joined, refusing-append, held-left, held-right, held-append}
 use Rattle.devices.specs.Sections.{each_entry}
 
@@ -46,7 +46,7 @@ module _ (f : ℕ → List Test) (n i : ℕ) (d : Deciding f n i) where
   unfolding behind
   next-decides h e = record { same = e behind ∙ sym (step h) ∙ d.same }
 
-pub ruleset deciding = (in_order_lem, all-decide, refused-here, none_left, next-decides)
+pub ruleset deciding = (ordering, all-decide, refused-here, none_left, next-decides)
 
 -- where each entry's tests refuse, all do
 pub refusing-each : (f : ℕ → List Test) → ((k : ℕ) → refusing (f k) ≡ true) → (i n : ℕ) → refusing (each_entry f i n) ≡ true

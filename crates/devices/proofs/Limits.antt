@@ -12,7 +12,7 @@ use lib.ListN.{length}
 use Rattle.octets.proofs.Flags.{by-test, of_either}
 use Rattle.verdict.specs.declared.Verdict.{Verdict}
 use Rattle.verdict.specs.declared.Part.{Part}
-use Rattle.verdict.specs.Orders.{Test, ◌or-else◌, in_order, refusal, good, is_good, refusing, no_part}
+use Rattle.verdict.specs.Orders.{Test, ◌or_else◌, in_order, refusal, good, is_good, refusing, no_part}
 use Rattle.verdict.specs.Refusals.{CUT, MANY, ORDER, ORPHAN}
 use Rattle.verdict.proofs.Order.{joined, passed, failed, stays, goes_on, good-held, held-good, refusing-append}
 use Rattle.devices.specs.declared.Section.{Section}

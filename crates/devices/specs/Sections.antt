@@ -6,7 +6,7 @@ use Rattle.octets.specs.Numbers.{low_first}
 use Rattle.octets.specs.Parts.{part}
 use Rattle.octets.specs.Searches.{first_fit}
 use Rattle.verdict.specs.declared.Verdict.{Verdict}
-use Rattle.verdict.specs.Orders.{Test, ◌or-else◌, refusal, good}
+use Rattle.verdict.specs.Orders.{Test, ◌or_else◌, refusal, good}
 use Rattle.verdict.specs.Refusals.{CUT, MANY}
 use Rattle.devices.specs.declared.Section.{Section}
 use Rattle.devices.specs.Keys.{below, same}

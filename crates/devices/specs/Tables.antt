@@ -4,7 +4,7 @@ use Rattle.std.specs.Prelude.{ℕ, ◌+◌, Bool, cond, ◌&&◌, List, [], ◌�
 use Rattle.octets.specs.Numbers.{bytes_of}
 use Rattle.verdict.specs.declared.Verdict.{Verdict}
 use Rattle.verdict.specs.declared.Part.{Part}
-use Rattle.verdict.specs.Orders.{Test, ◌or-else◌, in_order, good, is_good, part_by}
+use Rattle.verdict.specs.Orders.{Test, ◌or_else◌, in_order, good, is_good, part_by}
 use Rattle.verdict.specs.Refusals.{ORDER, ORPHAN, TAIL, UNLISTED}
 use Rattle.devices.specs.declared.Section.{Section}
 use Rattle.devices.specs.declared.Judgement.{Judgement}

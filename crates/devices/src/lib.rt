@@ -1,4 +1,6 @@
 // The judge of a device table, and a part's description found in it.
+#![tactic(auto)]
+
 ghost use Rattle.std.specs.Prelude.{◌≡◌, true, not, ◌&&◌, ◌+◌, ◌-◌, ◌≤◌, ◌<◌, ltb, length};
 ghost use Rattle.octets.specs.Searches.{first_refused};
 ghost use Rattle.verdict.specs.Orders.{in_order, good, is_good, part_in, place_in};

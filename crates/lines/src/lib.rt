@@ -1,4 +1,6 @@
 // The lines that the programs print, each made in a lent row of bytes so that one write prints it.
+#![tactic(auto)]
+
 ghost use Rattle.std.specs.Prelude.{◌≡◌, ◌+◌, ◌≤◌, length};
 ghost use Rattle.devices.specs.Tables.{of_systems, of_parts, earlier_parts};
 ghost use Rattle.octets.specs.Parts.{put_at};
@@ -31,6 +33,7 @@ const BLANK: u8 = 32;
 const NEWLINE: u8 = 10;
 
 // The line of an event, in the front of the row, and its length: 0 where there is none.
+#[tactic(auto, using(crate::proofs::Wording::events), unfolding(crate::specs::Events::event_line))]
 pub fn event_line(skipped: usize, event: Event, out: &[u8], row: &mut [u8; 128]) -> usize
     ensures value { result ≡ length (event_line skipped event out.now) }
     ensures row_after { row.new ≡ put_at row.old 0 (event_line skipped event out.now) }
