@@ -3,6 +3,7 @@
 use Prim.Native.Nat.{ℕ}
 use mathlib.Core.List.{List, [], ◌∷◌}
 use mathlib.Core.Path.{◌≡◌, refl, sym, ap, ◌∙◌}
+use denote.MutBor.{MutBor}
 use denote.Ref.{Bor}
 use Rattle.exchange.specs.declared.Address.{Address}
 use Rattle.exchange.specs.declared.Begun.{Begun}
@@ -24,7 +25,7 @@ use Rattle.trawnosz.proofs.trawnosz_tick.Reads as c-tick
 
 -- one call: the table that it is given, its answer's line, and the table that it gives back
 pub data Called : Exchanges → Line → Exchanges → Type 0 where
-  begins : (κs : _) (x : Exchanges) (n : ℕ) (out o : Bor (List ℕ)) (d : Draft) (l : ℕ) (b : Begun)
+  begins : (κs : _) (x : Exchanges) (n : ℕ) (out o : MutBor (List ℕ)) (d : Draft) (l : ℕ) (b : Begun)
       → c-begin-and-write.Post κs (x, (n, (out, (d, (l, tt))))) b (x, (n, (o, (d, (l, tt))))) → Called x (of_begin b.verdict b.place b.serial) b.state
   confirms : (κs : _) (x : Exchanges) (f : Address) (s : ℕ) (a : Replied) → c-reply-confirm.Post κs (x, (f, (s, tt))) a (x, (f, (s, tt)))
       → Called x (of_reply a.verdict a.place a.outcome) a.state

@@ -37,7 +37,7 @@ use Rattle.places.specs.declared.Report.{Report}
 use Rattle.places.specs.Rows.{lowest_free, is_open_as, twice, all_keep, are_sound, serial_for, fitting, all_sound, swept}
 use Rattle.reading.specs.Values.{MORE, PACKET, told, packet_of}
 use Rattle.reading.specs.Standing.{when_there, judged_frame, started, stands}
-use Rattle.reading.specs.Finding.{onward, more, noise, hit, found as foundIn, first, Heard, Reading, read_on, reading}
+use Rattle.reading.specs.Finding.{onward, more, noise, hit, found as found_in, first, Heard, Reading, read_on, reading}
 use Rattle.reading.specs.Calls.{State, Answer, pad_to, held_bytes, sound, answer_by, called, fresh}
 use Rattle.reply.specs.declared.Due.TheVariants.{Confirm}
 use Rattle.reply.specs.Replies.{command_for}
@@ -315,7 +315,7 @@ written e = e.1
 
 first_so : map said checked-first ≡ map written checked-first
 unfolding opened_packet unit_place part_by judged_packet judged_content judged_under judged_unit in_order rows_of table find_row text_size end_of walk timely judged
-    in_ranges first_fit any_fits low_first part total called answer_by sound every pad_to first foundIn more noise hit onward stands reading read_on
+    in_ranges first_fit any_fits low_first part total called answer_by sound every pad_to first found_in more noise hit onward stands reading read_on
     started judged_frame summed ended unit_length when_there room told packet_of made found begun begun_verdict begun_output mode_of packet_verdict written_packet
     packet_bytes head_bytes bytes_of put_at ticking legal lowest_free is_open_as twice all_keep are_sound serial_for swept is_open is_zero holds keeps denied ticked
     event_line packet_line short_line last_line line decimal decimal_in letters letters_in logged_by box_line box_after line_of after answered fitting fits replied tells
@@ -324,7 +324,7 @@ first_so = refl
 
 ends_so : map said checked-ends ≡ map written checked-ends
 unfolding opened_packet unit_place part_by judged_packet judged_content judged_under judged_unit in_order rows_of table find_row text_size end_of walk timely judged
-    in_ranges first_fit any_fits low_first part total called answer_by sound every pad_to first foundIn more noise hit onward stands reading read_on
+    in_ranges first_fit any_fits low_first part total called answer_by sound every pad_to first found_in more noise hit onward stands reading read_on
     started judged_frame summed ended unit_length when_there room told packet_of made found begun begun_verdict begun_output mode_of packet_verdict written_packet
     packet_bytes head_bytes bytes_of put_at ticking legal lowest_free is_open_as twice all_keep are_sound serial_for swept is_open is_zero holds keeps denied ticked
     event_line packet_line short_line last_line line decimal decimal_in letters letters_in logged_by box_line box_after line_of after answered fitting fits replied tells
@@ -333,7 +333,7 @@ ends_so = refl
 
 centres-so : map said checked-centres ≡ map written checked-centres
 unfolding opened_packet unit_place part_by judged_packet judged_content judged_under judged_unit in_order rows_of table find_row text_size end_of walk timely judged
-    in_ranges first_fit any_fits low_first part total called answer_by sound every pad_to first foundIn more noise hit onward stands reading read_on
+    in_ranges first_fit any_fits low_first part total called answer_by sound every pad_to first found_in more noise hit onward stands reading read_on
     started judged_frame summed ended unit_length when_there room told packet_of made found begun begun_verdict begun_output mode_of packet_verdict written_packet
     packet_bytes head_bytes bytes_of put_at ticking legal lowest_free is_open_as twice all_keep are_sound serial_for swept is_open is_zero holds keeps denied ticked
     event_line packet_line short_line last_line line decimal decimal_in letters letters_in logged_by box_line box_after line_of after answered fitting fits replied tells

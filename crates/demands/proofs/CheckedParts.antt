@@ -5,7 +5,7 @@ use mathlib.Core.Path.{◌≡◌, refl}
 use lib.ListN.{replicate}
 use Rattle.devices.specs.Keys.{below, same}
 use Rattle.devices.specs.Sections.{count_at, entry_at, first_bytes, rises, entry_of, each_entry, limited}
-use Rattle.devices.specs.Tables.{of_systems, of_parts, earlier_parts, judged as judgedTable}
+use Rattle.devices.specs.Tables.{of_systems, of_parts, earlier_parts, judged as judged_table}
 use Rattle.lines.specs.Decimal.{decimal_in, decimal}
 use Rattle.lines.specs.Tables.{led, counted, good_said, of_said, count_cut_said, many_said, cut_said, section_said, sections_said}
 use Rattle.lines.specs.Tables.{of_entry, place_said, what_said, refused_said, table_said, earlier_said, all_said, file_name, file_line, table_line}
@@ -23,10 +23,10 @@ parts low high = 0 ∷ 0 ∷ low ∷ high ∷ []
 
 -- the verdict of this release, and of the one before
 abbrev now : List ℕ → List ℕ
-now t = of (judgedTable of_systems of_parts t)
+now t = of (judged_table of_systems of_parts t)
 
 abbrev before : List ℕ → List ℕ
-before t = of (judgedTable of_systems earlier_parts t)
+before t = of (judged_table of_systems earlier_parts t)
 
 -- the line of `tables`, and that of a program that takes n parts and tells of one that took m
 abbrev line : List ℕ → List ℕ
@@ -61,6 +61,6 @@ checked-parts =
     ∷ []
 
 pub parts-so : map (λ (e : List ℕ × List ℕ). e.0) checked-parts ≡ map (λ (e : List ℕ × List ℕ). e.1) checked-parts
-unfolding judgedTable in_order count_at low_first entry_at each_entry first_bytes part rises entry_of below same first_fit table_line file_line file_name all_said table_said earlier_said
+unfolding judged_table in_order count_at low_first entry_at each_entry first_bytes part rises entry_of below same first_fit table_line file_line file_name all_said table_said earlier_said
     refused_said place_said what_said of_entry sections_said section_said cut_said many_said count_cut_said of_said good_said counted led decimal decimal_in letters letters_in
 parts-so = refl

@@ -6,6 +6,7 @@ use mathlib.Core.Bool.{Bool, true, false, cond, false≢true}
 use mathlib.Core.List.{List, ◌++◌}
 use mathlib.Core.Logic.{◌⊎◌, ⊎_elim}
 use mathlib.Core.Path.{◌≡◌, refl, sym, ap, subst, ◌∙◌}
+use denote.MutBor.{MutBor}
 use denote.Ref.{Bor}
 use borrow.Author.Tests.{lt-leb, leb-true}
 use lib.ListN.{length, take, drop, replicate, take-append-drop}
@@ -141,7 +142,7 @@ not_made t m a b e = simp e
 abbrev pub not_served : ℕ → ℕ → ℕ → ServedC
 not_served event held count = record { event = event; length = 0; skipped = 0; taken = 0; held = held; count = count }
 
-module _ (κs : _) (hold h : Bor (List ℕ)) (held count : ℕ) (piece out o : Bor (List ℕ)) (r : ServedC)
+module _ (κs : _) (hold h : MutBor (List ℕ)) (held count : ℕ) (piece : Bor (List ℕ)) (out o : MutBor (List ℕ)) (r : ServedC)
     (p : receive.Post κs (hold, (held, (count, (piece, (out, tt))))) r (h, (held, (count, (piece, (o, tt)))))) where
   abbrev st : State
   st = lent hold.now held count
@@ -180,32 +181,32 @@ module _ (κs : _) (hold h : Bor (List ℕ)) (held count : ℕ) (piece out o : B
           absurd (⊎_elim (λ q. other.0 (sym n ∙ q)) (λ q. other.1 (sym n ∙ q)) which)
 
 -- trawnosz_write_packet
-pub refused-write-packet : (κs : _) (out o : Bor (List ℕ)) (h : Header) (l : ℕ) (r : Verdict)
+pub refused-write-packet : (κs : _) (out o : MutBor (List ℕ)) (h : Header) (l : ℕ) (r : Verdict)
     → write-packet.Post κs (out, (h, (l, tt))) r (o, (h, (l, tt))) → is_good r ≡ false → o.now ≡ out.now
 refused-write-packet κs out o h l r p e = p.1 ∙ refused-packet out.now h l (ap is_good (sym p.0) ∙ e)
 
 -- trawnosz_write_packet_object
-pub refused-write-packet-object : (κs : _) (out o : Bor (List ℕ)) (l k : ℕ) (f : Fields) (d : Bor (List ℕ)) (r : Verdict)
+pub refused-write-packet-object : (κs : _) (out o : MutBor (List ℕ)) (l k : ℕ) (f : Fields) (d : Bor (List ℕ)) (r : Verdict)
     → write-packet-object.Post κs (out, (l, (k, (f, (d, tt))))) r (o, (l, (k, (f, (d, tt))))) → is_good r ≡ false → o.now ≡ out.now
 refused-write-packet-object κs out o l k f d r p e = p.1 ∙ refused-output out.now l k f d.now (ap is_good (sym p.0) ∙ e)
 
 -- trawnosz_write_packet_text
-pub refused-write-packet-text : (κs : _) (out o t : Bor (List ℕ)) (r : Verdict)
+pub refused-write-packet-text : (κs : _) (out o : MutBor (List ℕ)) (t : Bor (List ℕ)) (r : Verdict)
     → write-packet-text.Post κs (out, (t, tt)) r (o, (t, tt)) → is_good r ≡ false → o.now ≡ out.now
 refused-write-packet-text κs out o t r p e = p.1 ∙ refused-output-text out.now t.now (ap is_good (sym p.0) ∙ e)
 
 -- trawnosz_write_object
-pub refused-write-object : (κs : _) (u v : Bor (List ℕ)) (k : ℕ) (f : Fields) (d : Bor (List ℕ)) (r : Verdict)
+pub refused-write-object : (κs : _) (u v : MutBor (List ℕ)) (k : ℕ) (f : Fields) (d : Bor (List ℕ)) (r : Verdict)
     → write-object.Post κs (u, (k, (f, (d, tt)))) r (v, (k, (f, (d, tt)))) → is_good r ≡ false → v.now ≡ u.now
 refused-write-object κs u v k f d r p e = p.1 ∙ refused-object u.now k f d.now (ap is_good (sym p.0) ∙ e)
 
 -- trawnosz_write_text
-pub refused-write-text : (κs : _) (out o t : Bor (List ℕ)) (r : Verdict)
+pub refused-write-text : (κs : _) (out o : MutBor (List ℕ)) (t : Bor (List ℕ)) (r : Verdict)
     → write-text.Post κs (out, (t, tt)) r (o, (t, tt)) → is_good r ≡ false → o.now ≡ out.now
 refused-write-text κs out o t r p e = p.1 ∙ refused-text out.now t.now (ap is_good (sym p.0) ∙ e)
 
 -- trawnosz_answer_to
-pub refused-answer-to : (κs : _) (p : Bor (List ℕ)) (t : Label) (out o : Bor (List ℕ)) (r : AnswerC)
+pub refused-answer-to : (κs : _) (p : Bor (List ℕ)) (t : Label) (out o : MutBor (List ℕ)) (r : AnswerC)
     → answer-to.Post κs (p, (t, (out, tt))) r (p, (t, (o, tt))) → is_good r.verdict ≡ false → (r.command ≡ 0) × (o.now ≡ out.now)
 unfolding answered
 refused-answer-to κs p t out o r q e =
@@ -221,7 +222,7 @@ pub refused-exchanges-fresh : (t m : ℕ) (a b : Address) (r : Made) → exchang
 refused-exchanges-fresh t m a b r p = subst (λ (y : Made). is_good y.verdict ≡ false → y.state ≡ zeros) (sym p) (not_made t m a.bytes b.bytes)
 
 -- trawnosz_begin_and_write: with the table that was given, zero for all else, and nothing written
-pub refused-begin-and-write : (κs : _) (x : Exchanges) (n : ℕ) (out o : Bor (List ℕ)) (d : Draft) (l : ℕ) (r : Begun)
+pub refused-begin-and-write : (κs : _) (x : Exchanges) (n : ℕ) (out o : MutBor (List ℕ)) (d : Draft) (l : ℕ) (r : Begun)
     → begin-and-write.Post κs (x, (n, (out, (d, (l, tt))))) r (x, (n, (o, (d, (l, tt)))))
     → is_good r.verdict ≡ false → (r ≡ unbegun x r.verdict) × (o.now ≡ out.now)
 refused-begin-and-write κs x n out o d l r p e =
@@ -261,10 +262,10 @@ pub refused-tick : (x : Exchanges) (r : Ticked) → tick.Post tt (x, tt) r (x, t
 refused-tick x r p = subst (λ (b : Ticked). is_good b.verdict ≡ false → b ≡ unticked x b.verdict) (sym p) (tick-refused x)
 
 -- trawnosz_name and trawnosz_release: from 0 to 0, and nothing written
-pub refused-name : (κs : _) (n : ℕ) (out o : Bor (List ℕ)) (r : Part) → name.Post κs (n, (out, tt)) r (n, (o, tt))
+pub refused-name : (κs : _) (n : ℕ) (out o : MutBor (List ℕ)) (r : Part) → name.Post κs (n, (out, tt)) r (n, (o, tt))
     → is_good r.verdict ≡ false → (r ≡ no_part r.verdict) × (o.now ≡ out.now)
 refused-name κs n out o r p = front-refused (letters n) out.now o.now r p.0 p.1
 
-pub refused-release : (κs : _) (out o : Bor (List ℕ)) (r : Part) → release.Post κs (out, tt) r (o, tt)
+pub refused-release : (κs : _) (out o : MutBor (List ℕ)) (r : Part) → release.Post κs (out, tt) r (o, tt)
     → is_good r.verdict ≡ false → (r ≡ no_part r.verdict) × (o.now ≡ out.now)
 refused-release κs out o r p = front-refused number out.now o.now r p.0 p.1

@@ -186,13 +186,13 @@ pub object-in-output : (out : List ℕ) (l k : ℕ) (f : Fields) (d : List ℕ)
 object-in-output out l k f d =
     (within.object-good-when out l k f d, λ g. (within.unit-written out l k f d g, within.head-kept out l k f d g, within.rest-kept out l k f d g))
 
-pub text_in-output : (out t : List ℕ)
+pub text-in-output : (out t : List ℕ)
     → ((is_good (output_text_verdict out t) ≡ true) ↔ ((length t ≤ 255) × (30 + length t ≤ length out)))
     × (is_good (output_text_verdict out t) ≡ true
     → (take (3 + length t) (drop 27 (written_output_text out t)) ≡ text_unit t)
     × (take 27 (written_output_text out t) ≡ take 27 out)
     × (drop (30 + length t) (written_output_text out t) ≡ drop (30 + length t) out))
-text_in-output out t = (within.text-good-when out t, λ g. (within.text-written out t g, within.text-head-kept out t g, within.text-rest-kept out t g))
+text-in-output out t = (within.text-good-when out t, λ g. (within.text-written out t g, within.text-head-kept out t g, within.text-rest-kept out t g))
 
 -- and read, then written: what the reader gives of the objects of an accepted unit, written in any order into any unit of its type, number and length, gives its bytes again
 pub objects-again : (u body : List ℕ) (ws : List Write) → Octets u → is_good (judged_unit rows Any u) ≡ true → (row_of rows u).text ≡ NONE

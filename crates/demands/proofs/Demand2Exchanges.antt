@@ -7,7 +7,7 @@ use mathlib.Core.List.{List, reverse}
 use mathlib.Core.Logic.{◌↔◌}
 use mathlib.Core.Path.{◌≡◌, refl, sym, ap, subst⁻¹, ◌∙◌}
 use denote.Laws.{Is}
-use denote.Ref.{Bor}
+use denote.MutBor.{MutBor}
 use mir.Val.{Val}
 use borrow.Author.Tests.{le-leb}
 use lib.Dec.{eqb}
@@ -164,7 +164,7 @@ pub record SentBack (x : Exchanges) (a : Asked) (r : Begun) (q : List ℕ) : Typ
   pub rest : drop r.length q ≡ drop r.length a.out
 
 -- of the call that C links, whatever meets its contract
-pub begun-read-back : (κs : _) (x : Exchanges) (n : ℕ) (out o : Bor (List ℕ)) (d : Draft) (l : ℕ) (r : Begun)
+pub begun-read-back : (κs : _) (x : Exchanges) (n : ℕ) (out o : MutBor (List ℕ)) (d : Draft) (l : ℕ) (r : Begun)
     → begin-and-write.Post κs (x, (n, (out, (d, (l, tt))))) r (x, (n, (o, (d, (l, tt))))) → Addressed x n d → is_good r.verdict ≡ true
     → SentBack x (record { centre = n; out = out.now; draft = d; size = l }) r o.now
 begun-read-back κs x n out o d l r p six g =
@@ -323,15 +323,15 @@ module _ (t r : ℕ) (a b : List ℕ) (fresh : is_good (made t r a b).verdict �
   abbrev latest : List Line
   latest = reverse (logged (made t r a b).state cs)
 
-  module _ (is_open_lem : is_open left.mode ≡ true) where
+  module _ (open_left : is_open left.mode ≡ true) where
     pub open-was-begun : 1 ≤ count (begins k) latest
-    open-was-begun = (accounted k here t r a b fresh cs is_open_lem).begun
+    open-was-begun = (accounted k here t r a b fresh cs open_left).begun
 
     pub age-is-ticks : left.age ≡ count is_tick (up_to (sends k) latest)
-    age-is-ticks = (accounted k here t r a b fresh cs is_open_lem).aged
+    age-is-ticks = (accounted k here t r a b fresh cs open_left).aged
 
     pub resends-are-told : left.resends ≡ count (resends k) (up_to (begins k) latest)
-    resends-are-told = (accounted k here t r a b fresh cs is_open_lem).resent
+    resends-are-told = (accounted k here t r a b fresh cs open_left).resent
 
 -- A PACKET GIVEN AS ITS BYTES: "A reply is given as its serial and one of confirm, answer, deny, bad answer". The call that takes the table and a packet
 -- is the table's own call for that reply under the source address and the serial that stand in the bytes, whatever the table; of any other packet the table comes back as it was

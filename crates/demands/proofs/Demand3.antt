@@ -3,6 +3,7 @@
 use Prim.Native.Nat.{ℕ, ◌+◌, ◌≤◌}
 use native.Mathlib.Omega.{arith}
 use contract.Lifetimes.{Lfts}
+use denote.MutBor.{MutBor}
 use denote.Ref.{Bor}
 use mathlib.Core.Bool.{true}
 use mathlib.Core.List.{List, [], ◌∷◌, map, Memᴰ}
@@ -37,7 +38,7 @@ use Rattle.receiver.proofs.receive_lent.Reads as receive-lent
 -- places of your choosing and offer each piece, then what was not yet taken of it, until the receiver asks for more. The packets, refused starts, noise
 -- reports and skipped counts, in order, and the state at the end, are those of document 01's reading of the uncut stream. Each byte received is accounted
 -- for once: in a packet, as the first byte of a refused start, as skipped, or still held." There is such a run, and no other
-pub cut-anywhere : (box : Serves c-receive.Post) (in-hold : Holding) (by : Lending 3) (κs : Lfts 1) (row hold : Bor (List ℕ)) (r : _)
+pub cut-anywhere : (box : Serves c-receive.Post) (in-hold : Holding) (by : Lending 3) (κs : Lfts 1) (row hold : MutBor (List ℕ)) (r : _)
     → c-fresh.Post κs (row, tt) r (hold, tt) → (pieces : List (List ℕ))
     → CutAnywhere 1024 (stream.calls_c box in-hold by) (lent hold.now 0 0) pieces (reading 1024 0 0 (joined pieces))
     (map stream.heard_to (reading 1024 0 0 (joined pieces)).heard)
@@ -45,7 +46,7 @@ cut-anywhere = stream.demand-3-c
 
 -- "each modem release cuts the line differently, and putting one back must not alter what the centre hears": of two receivers, however each is lent to
 pub cut-otherwise : (box box' : Serves c-receive.Post) (in-hold in-hold' : Holding) (by by' : Lending 3) (κs κs' : Lfts 1)
-    (row hold row' hold' : Bor (List ℕ)) (r r' : _) → c-fresh.Post κs (row, tt) r (hold, tt) → c-fresh.Post κs' (row', tt) r' (hold', tt)
+    (row hold row' hold' : MutBor (List ℕ)) (r r' : _) → c-fresh.Post κs (row, tt) r (hold, tt) → c-fresh.Post κs' (row', tt) r' (hold', tt)
     → (pieces pieces' : List (List ℕ)) → joined pieces ≡ joined pieces'
     → (hs hs' : List stream.HeardC) (end end' : State) (n n' : ℕ)
     → Streaming (stream.calls_c box in-hold by) 0 (lent hold.now 0 0) pieces hs end n
@@ -63,20 +64,20 @@ pub can-be-met : Serves c-receive.Post
 can-be-met = stream.definition-serves
 
 -- a call is not refused, and an event costs a byte held or offered, so that offering ends
-pub c-goes-on : (κs : Lfts 3) (hold h : Bor (List ℕ)) (held count : ℕ) (piece out o : Bor (List ℕ)) (r : ServedC)
+pub c-goes-on : (κs : Lfts 3) (hold h : MutBor (List ℕ)) (held count : ℕ) (piece : Bor (List ℕ)) (out o : MutBor (List ℕ)) (r : ServedC)
     → Good 1024 (lent hold.now held count) → 1054 ≤ length out.now
     → c-receive.Post κs (hold, (held, (count, (piece, (out, tt))))) r (h, (held, (count, (piece, (o, tt)))))
     → stream.GoesOnC held piece.now r h.now
 c-goes-on = stream.c-on
 
 -- DEMAND 3, OF THE LIBRARY'S CALLS on a lent hold
-pub cut-anywhere-lent : (box : Serves receive-lent.Post) (in-hold : Holding) (by : Lending 3) (κs : Lfts 1) (row hold : Bor (List ℕ)) (r : _)
+pub cut-anywhere-lent : (box : Serves receive-lent.Post) (in-hold : Holding) (by : Lending 3) (κs : Lfts 1) (row hold : MutBor (List ℕ)) (r : _)
     → clear-lent.Post κs (row, tt) r (hold, tt) → (pieces : List (List ℕ))
     → CutAnywhere 1024 (calls_of 1024 (served box in-hold by)) (lent hold.now 0 0) pieces (reading 1024 0 0 (joined pieces))
     (reading 1024 0 0 (joined pieces)).heard
 cut-anywhere-lent = demand-3-lent
 
-pub lent-goes-on : (κs : Lfts 3) (hold h : Bor (List ℕ)) (held skipped : ℕ) (piece out o : Bor (List ℕ)) (r : Served)
+pub lent-goes-on : (κs : Lfts 3) (hold h : MutBor (List ℕ)) (held skipped : ℕ) (piece : Bor (List ℕ)) (out o : MutBor (List ℕ)) (r : Served)
     → Good 1024 (lent hold.now held skipped) → 1054 ≤ length out.now
     → receive-lent.Post κs (hold, (held, (skipped, (piece, (out, tt))))) r (h, (held, (skipped, (piece, (o, tt)))))
     → GoesOn 1024 (lent hold.now held skipped) piece.now (served_in r h.now o.now)
@@ -87,12 +88,12 @@ pub cut-anywhere-by-value : (box : Answers) (by : Lending 2) (x : Receiver) → 
     → CutAnywhere 1024 (calls_of 1024 (valued box by)) (given x) pieces (reading 1024 0 0 (joined pieces)) (reading 1024 0 0 (joined pieces)).heard
 cut-anywhere-by-value = demand-3
 
-pub value-goes-on : (κs : Lfts 2) (x : Receiver) (piece out o : Bor (List ℕ)) (r : Received) → Good 1024 (given x) → 1054 ≤ length out.now
+pub value-goes-on : (κs : Lfts 2) (x : Receiver) (piece : Bor (List ℕ)) (out o : MutBor (List ℕ)) (r : Received) → Good 1024 (given x) → 1054 ≤ length out.now
     → receive.Post κs (x, (piece, (out, tt))) r (x, (piece, (o, tt))) → GoesOn 1024 (given x) piece.now (answer_of r o.now)
 value-goes-on = receive-on
 
 -- of every such run of the C calls
-module _ (box : Serves c-receive.Post) (in-hold : Holding) (by : Lending 3) (κs : Lfts 1) (row hold : Bor (List ℕ)) (r : _)
+module _ (box : Serves c-receive.Post) (in-hold : Holding) (by : Lending 3) (κs : Lfts 1) (row hold : MutBor (List ℕ)) (r : _)
     (made : c-fresh.Post κs (row, tt) r (hold, tt)) (pieces : List (List ℕ)) where
   -- "Bytes received equal the events' skipped counts, one per LENGTH, END and SUM, the packets' lengths, the present count and the held bytes, added up."
   pub each-byte-once : (hs : List stream.HeardC) (end : State) (n : ℕ) → Streaming (stream.calls_c box in-hold by) 0 (lent hold.now 0 0) pieces hs end n

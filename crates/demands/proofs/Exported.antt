@@ -2,6 +2,7 @@
 use Prim.Native.Nat.{ℕ}
 use mathlib.Core.List.{List}
 use mathlib.Core.Path.{◌≡◌, sym, ◌∙◌}
+use denote.MutBor.{MutBor}
 use denote.Ref.{Bor}
 use Rattle.exchange.specs.declared.Begun.{Begun}
 use Rattle.exchange.specs.declared.Draft.{Draft}
@@ -97,48 +98,48 @@ judge-table-determined κs x r s a b = a ∙ sym b
 pub find-part-determined : (κs : _) (x : _) (r s : _) → find-part.Post κs x r x → find-part.Post κs x s x → r ≡ s
 find-part-determined κs x r s a b = a ∙ sym b
 
-pub write-packet-determined : (κs : _) (out o o' : Bor (List ℕ)) (h : Header) (l : ℕ) (r s : Verdict)
+pub write-packet-determined : (κs : _) (out o o' : MutBor (List ℕ)) (h : Header) (l : ℕ) (r s : Verdict)
     → write-packet.Post κs (out, (h, (l, tt))) r (o, (h, (l, tt))) → write-packet.Post κs (out, (h, (l, tt))) s (o', (h, (l, tt))) → (r ≡ s) × (o.now ≡ o'.now)
 write-packet-determined κs out o o' h l r s a b = (a.0 ∙ sym b.0, a.1 ∙ sym b.1)
 
-pub begin-and-write-determined : (κs : _) (x : Exchanges) (n : ℕ) (out o o' : Bor (List ℕ)) (d : Draft) (l : ℕ) (r s : Begun)
+pub begin-and-write-determined : (κs : _) (x : Exchanges) (n : ℕ) (out o o' : MutBor (List ℕ)) (d : Draft) (l : ℕ) (r s : Begun)
     → begin-and-write.Post κs (x, (n, (out, (d, (l, tt))))) r (x, (n, (o, (d, (l, tt)))))
     → begin-and-write.Post κs (x, (n, (out, (d, (l, tt))))) s (x, (n, (o', (d, (l, tt))))) → (r ≡ s) × (o.now ≡ o'.now)
 begin-and-write-determined κs x n out o o' d l r s a b = (a.0 ∙ sym b.0, a.1 ∙ sym b.1)
 
-pub write-packet-object-determined : (κs : _) (out o o' : Bor (List ℕ)) (l : ℕ) (k : ℕ) (f : Fields) (d : Bor (List ℕ)) (r s : Verdict)
+pub write-packet-object-determined : (κs : _) (out o o' : MutBor (List ℕ)) (l : ℕ) (k : ℕ) (f : Fields) (d : Bor (List ℕ)) (r s : Verdict)
     → write-packet-object.Post κs (out, (l, (k, (f, (d, tt))))) r (o, (l, (k, (f, (d, tt)))))
     → write-packet-object.Post κs (out, (l, (k, (f, (d, tt))))) s (o', (l, (k, (f, (d, tt))))) → (r ≡ s) × (o.now ≡ o'.now)
 write-packet-object-determined κs out o o' l k f d r s a b = (a.0 ∙ sym b.0, a.1 ∙ sym b.1)
 
-pub write-packet-text-determined : (κs : _) (out o o' : Bor (List ℕ)) (t : Bor (List ℕ)) (r s : Verdict)
+pub write-packet-text-determined : (κs : _) (out o o' : MutBor (List ℕ)) (t : Bor (List ℕ)) (r s : Verdict)
     → write-packet-text.Post κs (out, (t, tt)) r (o, (t, tt)) → write-packet-text.Post κs (out, (t, tt)) s (o', (t, tt)) → (r ≡ s) × (o.now ≡ o'.now)
 write-packet-text-determined κs out o o' t r s a b = (a.0 ∙ sym b.0, a.1 ∙ sym b.1)
 
-pub answer-to-determined : (κs : _) (out o o' : Bor (List ℕ)) (p : Bor (List ℕ)) (t : Label) (r s : AnswerC)
+pub answer-to-determined : (κs : _) (out o o' : MutBor (List ℕ)) (p : Bor (List ℕ)) (t : Label) (r s : AnswerC)
     → answer-to.Post κs (p, (t, (out, tt))) r (p, (t, (o, tt))) → answer-to.Post κs (p, (t, (out, tt))) s (p, (t, (o', tt))) → (r ≡ s) × (o.now ≡ o'.now)
 answer-to-determined κs out o o' p t r s a b = (a.0 ∙ sym b.0, a.1 ∙ sym b.1)
 
-pub write-object-determined : (κs : _) (out o o' : Bor (List ℕ)) (k : ℕ) (f : Fields) (d : Bor (List ℕ)) (r s : Verdict)
+pub write-object-determined : (κs : _) (out o o' : MutBor (List ℕ)) (k : ℕ) (f : Fields) (d : Bor (List ℕ)) (r s : Verdict)
     → write-object.Post κs (out, (k, (f, (d, tt)))) r (o, (k, (f, (d, tt)))) → write-object.Post κs (out, (k, (f, (d, tt)))) s (o', (k, (f, (d, tt)))) → (r ≡ s) × (o.now ≡ o'.now)
 write-object-determined κs out o o' k f d r s a b = (a.0 ∙ sym b.0, a.1 ∙ sym b.1)
 
-pub write-text-determined : (κs : _) (out o o' : Bor (List ℕ)) (t : Bor (List ℕ)) (r s : Verdict)
+pub write-text-determined : (κs : _) (out o o' : MutBor (List ℕ)) (t : Bor (List ℕ)) (r s : Verdict)
     → write-text.Post κs (out, (t, tt)) r (o, (t, tt)) → write-text.Post κs (out, (t, tt)) s (o', (t, tt)) → (r ≡ s) × (o.now ≡ o'.now)
 write-text-determined κs out o o' t r s a b = (a.0 ∙ sym b.0, a.1 ∙ sym b.1)
 
-pub name-determined : (κs : _) (n : ℕ) (out o o' : Bor (List ℕ)) (r s : Part)
+pub name-determined : (κs : _) (n : ℕ) (out o o' : MutBor (List ℕ)) (r s : Part)
     → name.Post κs (n, (out, tt)) r (n, (o, tt)) → name.Post κs (n, (out, tt)) s (n, (o', tt)) → (r ≡ s) × (o.now ≡ o'.now)
 name-determined κs n out o o' r s a b = (a.0 ∙ sym b.0, a.1 ∙ sym b.1)
 
-pub release-determined : (κs : _) (out o o' : Bor (List ℕ)) (r s : Part)
+pub release-determined : (κs : _) (out o o' : MutBor (List ℕ)) (r s : Part)
     → release.Post κs (out, tt) r (o, tt) → release.Post κs (out, tt) s (o', tt) → (r ≡ s) × (o.now ≡ o'.now)
 release-determined κs out o o' r s a b = (a.0 ∙ sym b.0, a.1 ∙ sym b.1)
 
-pub fresh-determined : (κs : _) (hold h k : Bor (List ℕ)) (r s : _) → fresh.Post κs (hold, tt) r (h, tt) → fresh.Post κs (hold, tt) s (k, tt) → h.now ≡ k.now
+pub fresh-determined : (κs : _) (hold h k : MutBor (List ℕ)) (r s : _) → fresh.Post κs (hold, tt) r (h, tt) → fresh.Post κs (hold, tt) s (k, tt) → h.now ≡ k.now
 fresh-determined κs hold h k r s a b = a ∙ sym b
 
-pub receive-determined : (κs : _) (hold h k : Bor (List ℕ)) (held count : ℕ) (piece out o p : Bor (List ℕ)) (r s : ServedC)
+pub receive-determined : (κs : _) (hold h k : MutBor (List ℕ)) (held count : ℕ) (piece : Bor (List ℕ)) (out o p : MutBor (List ℕ)) (r s : ServedC)
     → receive.Post κs (hold, (held, (count, (piece, (out, tt))))) r (h, (held, (count, (piece, (o, tt)))))
     → receive.Post κs (hold, (held, (count, (piece, (out, tt))))) s (k, (held, (count, (piece, (p, tt)))))
     → (r ≡ s) × (h.now ≡ k.now) × (o.now ≡ p.now)

@@ -3,6 +3,7 @@
 use Prim.Native.Nat.{ℕ}
 use mathlib.Core.List.{List}
 use mathlib.Core.Path.{◌≡◌, sym, ◌∙◌}
+use denote.MutBor.{MutBor}
 use denote.Ref.{Bor}
 use Rattle.exchange.specs.declared.Begun.{Begun}
 use Rattle.exchange.specs.declared.Draft.{Draft}
@@ -52,67 +53,67 @@ packet-unit-of-determined κs x r s a b = (a.0 ∙ sym b.0, a.1 ∙ sym b.1)
 pub devices-find-determined : (κs : _) (x : _) (r s : Bor (List ℕ)) → devices-find.Post κs x r x → devices-find.Post κs x s x → (r.now ≡ s.now) × (r.ref_ptr ≡ s.ref_ptr)
 devices-find-determined κs x r s a b = (a.0 ∙ sym b.0, a.1 ∙ sym b.1)
 
-pub output-write-determined : (κs : _) (out o o' : Bor (List ℕ)) (h : Header) (l : ℕ) (r s : Verdict)
+pub output-write-determined : (κs : _) (out o o' : MutBor (List ℕ)) (h : Header) (l : ℕ) (r s : Verdict)
     → output-write.Post κs (out, (h, (l, tt))) r (o, (h, (l, tt))) → output-write.Post κs (out, (h, (l, tt))) s (o', (h, (l, tt))) → (r ≡ s) × (o.now ≡ o'.now)
 output-write-determined κs out o o' h l r s a b = (a.0 ∙ sym b.0, a.1 ∙ sym b.1)
 
-pub exchange-exchanges-begin-and-write-determined : (κs : _) (x : Exchanges) (n : ℕ) (out o o' : Bor (List ℕ)) (d : Draft) (l : ℕ) (r s : Begun)
+pub exchange-exchanges-begin-and-write-determined : (κs : _) (x : Exchanges) (n : ℕ) (out o o' : MutBor (List ℕ)) (d : Draft) (l : ℕ) (r s : Begun)
     → exchange-exchanges-begin-and-write.Post κs (x, (n, (out, (d, (l, tt))))) r (x, (n, (o, (d, (l, tt)))))
     → exchange-exchanges-begin-and-write.Post κs (x, (n, (out, (d, (l, tt))))) s (x, (n, (o', (d, (l, tt))))) → (r ≡ s) × (o.now ≡ o'.now)
 exchange-exchanges-begin-and-write-determined κs x n out o o' d l r s a b = (a.0 ∙ sym b.0, a.1 ∙ sym b.1)
 
-pub output-write-object-determined : (κs : _) (out o o' : Bor (List ℕ)) (l : ℕ) (k : ℕ) (f : Fields) (d : Bor (List ℕ)) (r s : Verdict)
+pub output-write-object-determined : (κs : _) (out o o' : MutBor (List ℕ)) (l : ℕ) (k : ℕ) (f : Fields) (d : Bor (List ℕ)) (r s : Verdict)
     → output-write-object.Post κs (out, (l, (k, (f, (d, tt))))) r (o, (l, (k, (f, (d, tt)))))
     → output-write-object.Post κs (out, (l, (k, (f, (d, tt))))) s (o', (l, (k, (f, (d, tt))))) → (r ≡ s) × (o.now ≡ o'.now)
 output-write-object-determined κs out o o' l k f d r s a b = (a.0 ∙ sym b.0, a.1 ∙ sym b.1)
 
-pub output-write-text-determined : (κs : _) (out o o' : Bor (List ℕ)) (t : Bor (List ℕ)) (r s : Verdict)
+pub output-write-text-determined : (κs : _) (out o o' : MutBor (List ℕ)) (t : Bor (List ℕ)) (r s : Verdict)
     → output-write-text.Post κs (out, (t, tt)) r (o, (t, tt)) → output-write-text.Post κs (out, (t, tt)) s (o', (t, tt)) → (r ≡ s) × (o.now ≡ o'.now)
 output-write-text-determined κs out o o' t r s a b = (a.0 ∙ sym b.0, a.1 ∙ sym b.1)
 
-pub objects-write-determined : (κs : _) (out o o' : Bor (List ℕ)) (k : ℕ) (f : Fields) (d : Bor (List ℕ)) (r s : Verdict)
+pub objects-write-determined : (κs : _) (out o o' : MutBor (List ℕ)) (k : ℕ) (f : Fields) (d : Bor (List ℕ)) (r s : Verdict)
     → objects-write.Post κs (out, (k, (f, (d, tt)))) r (o, (k, (f, (d, tt)))) → objects-write.Post κs (out, (k, (f, (d, tt)))) s (o', (k, (f, (d, tt)))) → (r ≡ s) × (o.now ≡ o'.now)
 objects-write-determined κs out o o' k f d r s a b = (a.0 ∙ sym b.0, a.1 ∙ sym b.1)
 
-pub objects-write-text-determined : (κs : _) (out o o' : Bor (List ℕ)) (t : Bor (List ℕ)) (r s : Verdict)
+pub objects-write-text-determined : (κs : _) (out o o' : MutBor (List ℕ)) (t : Bor (List ℕ)) (r s : Verdict)
     → objects-write-text.Post κs (out, (t, tt)) r (o, (t, tt)) → objects-write-text.Post κs (out, (t, tt)) s (o', (t, tt)) → (r ≡ s) × (o.now ≡ o'.now)
 objects-write-text-determined κs out o o' t r s a b = (a.0 ∙ sym b.0, a.1 ∙ sym b.1)
 
-pub reply-answer-to-determined : (κs : _) (out o o' : Bor (List ℕ)) (p : Bor (List ℕ)) (t : Label) (r s : Answer)
+pub reply-answer-to-determined : (κs : _) (out o o' : MutBor (List ℕ)) (p : Bor (List ℕ)) (t : Label) (r s : Answer)
     → reply-answer-to.Post κs (p, (t, (out, tt))) r (p, (t, (o, tt))) → reply-answer-to.Post κs (p, (t, (out, tt))) s (p, (t, (o', tt))) → (r ≡ s) × (o.now ≡ o'.now)
 reply-answer-to-determined κs out o o' p t r s a b = (a.0 ∙ sym b.0, a.1 ∙ sym b.1)
 
-pub octets-put-determined : (κs : _) (out o o' : Bor (List ℕ)) (k : ℕ) (t : Bor (List ℕ)) (r s : _)
+pub octets-put-determined : (κs : _) (out o o' : MutBor (List ℕ)) (k : ℕ) (t : Bor (List ℕ)) (r s : _)
     → octets-put.Post κs (out, (k, (t, tt))) r (o, (k, (t, tt))) → octets-put.Post κs (out, (k, (t, tt))) s (o', (k, (t, tt))) → o.now ≡ o'.now
 octets-put-determined κs out o o' k t r s a b = a ∙ sym b
 
 pub rows-span-determined : (κs : _) (x : _) (r s : Bor (List ℕ)) → rows-span.Post κs x r x → rows-span.Post κs x s x → (r.now ≡ s.now) × (r.ref_ptr ≡ s.ref_ptr)
 rows-span-determined κs x r s a b = (a.0 ∙ sym b.0, a.1 ∙ sym b.1)
 
-pub rows-wipe-determined : (κs : _) (row o o' : Bor (List ℕ)) (r s : _) → rows-wipe.Post κs (row, tt) r (o, tt) → rows-wipe.Post κs (row, tt) s (o', tt) → o.now ≡ o'.now
+pub rows-wipe-determined : (κs : _) (row o o' : MutBor (List ℕ)) (r s : _) → rows-wipe.Post κs (row, tt) r (o, tt) → rows-wipe.Post κs (row, tt) s (o', tt) → o.now ≡ o'.now
 rows-wipe-determined κs row o o' r s a b = a ∙ sym b
 
-pub naming-write-front-determined : (κs : _) (t : Bor (List ℕ)) (out o o' : Bor (List ℕ)) (r s : Part)
+pub naming-write-front-determined : (κs : _) (t : Bor (List ℕ)) (out o o' : MutBor (List ℕ)) (r s : Part)
     → naming-write-front.Post κs (t, (out, tt)) r (t, (o, tt)) → naming-write-front.Post κs (t, (out, tt)) s (t, (o', tt)) → (r ≡ s) × (o.now ≡ o'.now)
 naming-write-front-determined κs t out o o' r s a b = (a.0 ∙ sym b.0, a.1 ∙ sym b.1)
 
-pub naming-write-name-determined : (κs : _) (n : ℕ) (out o o' : Bor (List ℕ)) (r s : Part)
+pub naming-write-name-determined : (κs : _) (n : ℕ) (out o o' : MutBor (List ℕ)) (r s : Part)
     → naming-write-name.Post κs (n, (out, tt)) r (n, (o, tt)) → naming-write-name.Post κs (n, (out, tt)) s (n, (o', tt)) → (r ≡ s) × (o.now ≡ o'.now)
 naming-write-name-determined κs n out o o' r s a b = (a.0 ∙ sym b.0, a.1 ∙ sym b.1)
 
-pub lines-event-line-determined : (κs : _) (n : ℕ) (e : Event) (p row o o' : Bor (List ℕ)) (r s : ℕ)
+pub lines-event-line-determined : (κs : _) (n : ℕ) (e : Event) (p : Bor (List ℕ)) (row o o' : MutBor (List ℕ)) (r s : ℕ)
     → lines-event-line.Post κs (n, (e, (p, (row, tt)))) r (n, (e, (p, (o, tt))))
     → lines-event-line.Post κs (n, (e, (p, (row, tt)))) s (n, (e, (p, (o', tt)))) → (r ≡ s) × (o.now ≡ o'.now)
 lines-event-line-determined κs n e p row o o' r s a b = (a.0 ∙ sym b.0, a.1 ∙ sym b.1)
 
-pub lines-last-line-determined : (κs : _) (h n : ℕ) (row o o' : Bor (List ℕ)) (r s : ℕ)
+pub lines-last-line-determined : (κs : _) (h n : ℕ) (row o o' : MutBor (List ℕ)) (r s : ℕ)
     → lines-last-line.Post κs (h, (n, (row, tt))) r (h, (n, (o, tt))) → lines-last-line.Post κs (h, (n, (row, tt))) s (h, (n, (o', tt))) → (r ≡ s) × (o.now ≡ o'.now)
 lines-last-line-determined κs h n row o o' r s a b = (a.0 ∙ sym b.0, a.1 ∙ sym b.1)
 
-pub lines-table-line-determined : (κs : _) (f t row o o' : Bor (List ℕ)) (r s : ℕ)
+pub lines-table-line-determined : (κs : _) (f t : Bor (List ℕ)) (row o o' : MutBor (List ℕ)) (r s : ℕ)
     → lines-table-line.Post κs (f, (t, (row, tt))) r (f, (t, (o, tt))) → lines-table-line.Post κs (f, (t, (row, tt))) s (f, (t, (o', tt))) → (r ≡ s) × (o.now ≡ o'.now)
 lines-table-line-determined κs f t row o o' r s a b = (a.0 ∙ sym b.0, a.1 ∙ sym b.1)
 
-pub lines-unjudged-line-determined : (κs : _) (f row o o' : Bor (List ℕ)) (w : Why) (r s : ℕ)
+pub lines-unjudged-line-determined : (κs : _) (f : Bor (List ℕ)) (row o o' : MutBor (List ℕ)) (w : Why) (r s : ℕ)
     → lines-unjudged-line.Post κs (f, (w, (row, tt))) r (f, (w, (o, tt))) → lines-unjudged-line.Post κs (f, (w, (row, tt))) s (f, (w, (o', tt))) → (r ≡ s) × (o.now ≡ o'.now)
 lines-unjudged-line-determined κs f row o o' w r s x y = (x.0 ∙ sym y.0, x.1 ∙ sym y.1)

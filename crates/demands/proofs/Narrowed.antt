@@ -33,7 +33,7 @@ use Rattle.unit.specs.Objects.{type_of, count_of}
 use Rattle.unit.specs.Places.{number_test}
 use Rattle.unit.specs.Units.{row_of, one_size, one_size_test, shape_by, is_kept, empty_tests, is_command}
 use Rattle.verdict.specs.declared.Verdict.{Verdict}
-use Rattle.verdict.specs.Orders.{Test, ◌or-else◌, in_order, refusal, good}
+use Rattle.verdict.specs.Orders.{Test, ◌or_else◌, in_order, refusal, good}
 use Rattle.verdict.specs.Refusals.{CUT, START, LENGTH, END, SUM, VERSION, COMMAND, TIME, UNIT, TYPE, COUNT, KIND, TEXT}
 use Rattle.demands.specs.Rules.{Rule, in13, in14, label_at, timely_by, time_test_by, unit_by, under_by, head_test, content_by, packet_by, writer_by, begun_by, new_timely_by, object_by}
 use Rattle.demands.specs.Release13.{ObjectWithoutTime, WithoutTime, NewWithoutTime, Narrowed}

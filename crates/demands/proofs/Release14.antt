@@ -35,7 +35,7 @@ use Rattle.taking.specs.Takes.{role_in, taken_as}
 use Rattle.unit.specs.Units.{is_kept, empty_tests}
 use Rattle.unit.proofs.Under.{by-kept, kept-command, kept-good}
 use Rattle.verdict.specs.declared.Verdict.{Verdict}
-use Rattle.verdict.specs.Orders.{Test, ◌or-else◌, in_order, refusal, good, is_good, refusing, no_part, part_by}
+use Rattle.verdict.specs.Orders.{Test, ◌or_else◌, in_order, refusal, good, is_good, refusing, no_part, part_by}
 use Rattle.verdict.specs.Refusals.{UNIT, TIME}
 use Rattle.verdict.proofs.Order.{passed, failed, good-held, held-good, stays, goes_on, exchanged}
 use Rattle.demands.specs.Rules.{in14, in15, in16, under_by, content_by, packet_by, writer_by, begun_by, due_by, reply_by, taken_by}

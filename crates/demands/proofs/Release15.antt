@@ -39,7 +39,7 @@ use Rattle.unit.proofs.Sizes.{of-size-refused}
 use Rattle.unit.proofs.Split.{order-was, unit-was}
 use Rattle.verdict.specs.declared.Verdict.{Verdict}
 use Rattle.verdict.specs.declared.Part.{Part}
-use Rattle.verdict.specs.Orders.{◌or-else◌, in_order, refusal, good, is_good, part_by, no_part}
+use Rattle.verdict.specs.Orders.{◌or_else◌, in_order, refusal, good, is_good, part_by, no_part}
 use Rattle.verdict.specs.Refusals.{Row, row, COMMAND, TIME, SHORT, LONG}
 use Rattle.verdict.proofs.Order.{in-other-words, part-good}
 use Rattle.demands.specs.Rules.{in15, in16, timely_by, new_timely_by, unit_by, stands_by, under_by, content_by, packet_by, writer_by, begun_by, object_by, object_in_by, due_by, reply_by, taken_by}

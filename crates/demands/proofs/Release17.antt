@@ -5,7 +5,7 @@ use native.Mathlib.Omega.{arith}
 use mathlib.Core.Bool.{cond}
 use mathlib.Core.List.{List}
 use mathlib.Core.Path.{◌≡◌}
-use Rattle.devices.specs.Tables.{of_systems, of_parts, earlier_parts, is_larger, judged as judgedTable, refused_by, judgement, found_place}
+use Rattle.devices.specs.Tables.{of_systems, of_parts, earlier_parts, is_larger, judged as judged_table, refused_by, judgement, found_place}
 use Rattle.devices.proofs.Limits.{as-limited, judgement-limited, found-limited}
 use Rattle.lines.specs.Tables.{table_said, parts_many, file_line, table_line}
 use Rattle.lines.proofs.Limits.{line-limited}
@@ -13,7 +13,7 @@ use Rattle.verdict.specs.Orders.{refusal, no_part}
 use Rattle.verdict.specs.Refusals.{MANY}
 
 -- the tender's "going back is also a release": a table, with its counts
-pub table-as-in-1-7 : (t : List ℕ) → judgedTable of_systems earlier_parts t ≡ cond (is_larger of_systems 1024 t) (refusal MANY 0) (judgedTable of_systems of_parts t)
+pub table-as-in-1-7 : (t : List ℕ) → judged_table of_systems earlier_parts t ≡ cond (is_larger of_systems 1024 t) (refusal MANY 0) (judged_table of_systems of_parts t)
 table-as-in-1-7 t = as-limited of_systems of_parts t 1024 1600 (omega arith)
 
 pub judgement-as-in-1-7 : (t : List ℕ)

@@ -28,7 +28,7 @@ use Rattle.unit.proofs.Sizes.{of-size-refused, of-size-other}
 use Rattle.unit.proofs.Split.{split-exactly}
 use Rattle.unit.proofs.Under.{judged_under_lem}
 use Rattle.verdict.specs.declared.Verdict.{Verdict}
-use Rattle.verdict.specs.Orders.{◌or-else◌, Held, in_order, refusal, good, is_good}
+use Rattle.verdict.specs.Orders.{◌or_else◌, Held, in_order, refusal, good, is_good}
 use Rattle.verdict.specs.Refusals.{COMMAND, SHORT, LONG}
 use Rattle.verdict.proofs.Order.{good-held, stays, goes_on}
 use Rattle.demands.specs.Rules.{in15, timely_by, unit_by}

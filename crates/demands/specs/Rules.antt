@@ -31,7 +31,7 @@ use Rattle.unit.specs.Places.{number_test, placed_after}
 use Rattle.unit.specs.Units.{row_of, size_tests, one_size_test, shape_by, is_kept, kept_tests, empty_tests, is_command}
 use Rattle.verdict.specs.declared.Verdict.{Verdict}
 use Rattle.verdict.specs.declared.Part.{Part}
-use Rattle.verdict.specs.Orders.{Test, ◌or-else◌, in_order, refusal, good, is_good, part_by}
+use Rattle.verdict.specs.Orders.{Test, ◌or_else◌, in_order, refusal, good, is_good, part_by}
 use Rattle.verdict.specs.Refusals.{VERSION, COMMAND, TIME, KIND, TEXT, ROOM}
 
 -- a rule of labels (Q-1), one of what a confirm or a deny carries (Q-2), and one of a unit's size (Q-4)

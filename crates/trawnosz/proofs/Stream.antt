@@ -2,7 +2,7 @@
 use Prim.Native.Nat.{ℕ, ◌+◌, ◌≤◌, ◌<◌}
 use native.Mathlib.Omega.{arith}
 use contract.Lifetimes.{Lfts}
-use denote.Ref.{MutBor, at_last}
+use denote.Ref.{Bor, MutBor, at_last}
 use mathlib.Core.Bool.{false, cond, ◌||◌}
 use mathlib.Core.List.Memᴰ
 use mathlib.Core.List.{List, [], ◌∷◌, map, Memᴰ}
@@ -79,7 +79,7 @@ pub record GoesOnC (held : ℕ) (piece : List ℕ) (r : ServedC) (hold : List �
   pub falls : eqb r.event MORE ≡ false → r.held + length (drop r.taken piece) < held + length piece
 
 -- an answer that meets the contract, from a state that keeps the rules, with a buffer of 1,054 bytes or more
-module _ (κs : Lfts 3) (hold h : MutBor (List ℕ)) (held count : ℕ) (piece out o : MutBor (List ℕ)) (r : ServedC) (g : Good 1024 (lent hold.now held count))
+module _ (κs : Lfts 3) (hold h : MutBor (List ℕ)) (held count : ℕ) (piece : Bor (List ℕ)) (out o : MutBor (List ℕ)) (r : ServedC) (g : Good 1024 (lent hold.now held count))
     (roomy : 1054 ≤ length out.now) (p : receive.Post κs (hold, (held, (count, (piece, (out, tt))))) r (h, (held, (count, (piece, (o, tt)))))) where
   answer-on : GoesOn 1024 (lent hold.now held count) piece.now (called 1024 (lent hold.now held count) piece.now out.now)
   unfolding room

@@ -1,7 +1,5 @@
 -- Answers as C sees them: an event and a reply's command as numbers.
 -- Assumes nothing.
-use Rattle.std.specs.Prelude.{ℕ}
-use Rattle.reading.specs.declared.Told.{Told}
 use Rattle.reading.specs.Values.{told}
 use Rattle.receiver.specs.declared.Served.{Served}
 use Rattle.reply.specs.declared.Answer.{Answer}

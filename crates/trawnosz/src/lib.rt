@@ -1,4 +1,6 @@
-// The calls that a C program links; include/trawnosz.h declares them.
+// Every delivered call in the form that C has it, as include/trawnosz.h declares it; crate trawnosz_c exports each under its name.
+#![tactic(auto)]
+
 ghost use Rattle.std.specs.Prelude.{◌≡◌};
 ghost use Rattle.octets.specs.Parts.{put_at};
 ghost use Rattle.kinds.specs.Table.{table, rows, length_for};
