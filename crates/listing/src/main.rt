@@ -1,11 +1,10 @@
 // Lists the events of the stream on its standard input, a line for each, and last what is held and skipped.
+#![tactic(auto)]
+
 ghost use Rattle.std.specs.Prelude.{◌≡◌, length};
 
-use libc::{STDERR_FILENO, STDIN_FILENO, STDOUT_FILENO};
 use reading::Event;
-
-// More turns than a machine makes: what an endless input is measured by.
-const TURNS: u64 = 18446744073709551615;
+use std::io::Read;
 
 // What a receiver keeps from call to call beside its hold, and whether the listing goes on.
 #[derive(Clone, Copy)]
@@ -23,25 +22,27 @@ fn room() -> [u8; 1054]
 }
 
 // Writes a line by one call; where it cannot be written the listing ends, and says why.
-fn print_line(row: &[u8; 128], length: usize) -> bool {
-    let written = io::write_all(STDOUT_FILENO, octets::part_of(row, 0, length));
-    if !written {
-        os::fail(b"listing: standard output");
+fn print_line(rt: &(impl Print + Eprint), row: &[u8; 128], length: usize) -> bool {
+    match rt.write_all(octets::part_of(row, 0, length)) {
+        Ok(()) => true,
+        Err(error) => {
+            let _ = eprintln!(rt; "listing: standard output: {error}");
+            false
+        }
     }
-    written
 }
 
 // An event's line; no line where more is asked for, or where the call was refused.
-fn list_event(event: Event, skipped: usize, out: &[u8]) -> bool {
+fn list_event(rt: &(impl Print + Eprint), event: Event, skipped: usize, out: &[u8]) -> bool {
     match event {
         Event::Refused(_) => {
-            io::write_all(STDERR_FILENO, b"listing: the receiver refused its state\n");
+            let _ = eprintln!(rt; "listing: the receiver refused its state");
             false
         }
         _ => {
             let mut row: [u8; 128] = [0; 128];
             let length = lines::event_line(skipped, event, out, &mut row);
-            print_line(&row, length)
+            print_line(rt, &row, length)
         }
     }
 }
@@ -62,19 +63,23 @@ fn behind(from: usize, taken: usize, end: usize) -> usize {
 }
 
 // Offers a piece, again from what was not taken, until more is asked for.
-fn list_piece(hold: &mut [u8; 1054], kept: Kept, piece: &[u8], out: &mut [u8]) -> Kept {
+fn list_piece(
+    rt: &(impl Print + Eprint),
+    hold: &mut [u8; 1054],
+    kept: Kept,
+    piece: &[u8],
+    out: &mut [u8],
+) -> Kept {
     let mut held = kept.held;
     let mut skipped = kept.skipped;
     let mut from: usize = 0;
-    let mut turns = TURNS;
-    while turns > 0 {
-        turns = turns - 1;
+    for _ in 0..u64::MAX {
         let left = octets::part_of(piece, from, piece.len());
         let s = receiver::receive_lent(hold, held, skipped, left, out);
         held = s.held;
         skipped = s.count;
         let event = s.event;
-        let going = list_event(event, s.skipped, out);
+        let going = list_event(rt, event, s.skipped, out);
         if !going || is_more(event) {
             return Kept {
                 held,
@@ -92,42 +97,46 @@ fn list_piece(hold: &mut [u8; 1054], kept: Kept, piece: &[u8], out: &mut [u8]) -
 }
 
 // The last line: "held H skipped S".
-fn print_last(kept: Kept) {
+fn print_last(rt: &(impl Print + Eprint), kept: Kept) {
     let mut row: [u8; 128] = [0; 128];
     let length = lines::last_line(kept.held, kept.skipped, &mut row);
-    print_line(&row, length);
+    print_line(rt, &row, length);
 }
 
 // Reads to the end of the input; a read that fails is told from the end, so that no beginning of a stream is listed for the whole.
-fn list_input(hold: &mut [u8; 1054], out: &mut [u8], buf: &mut [u8]) {
+fn list_input<R: Read>(
+    rt: &(impl Print + Eprint),
+    input: &mut R,
+    hold: &mut [u8; 1054],
+    out: &mut [u8],
+    buf: &mut [u8],
+) {
     let mut kept = Kept {
         held: 0,
         skipped: 0,
         going: true,
     };
-    let mut turns = TURNS;
-    while turns > 0 {
-        turns = turns - 1;
-        let got = libc::read(STDIN_FILENO, buf);
-        if got < 0 {
-            os::fail(b"listing: standard input");
-            return;
+    for _ in 0..u64::MAX {
+        match input.read(buf) {
+            Err(error) => {
+                let _ = eprintln!(rt; "listing: standard input: {error}");
+                return;
+            }
+            Ok(0) => {
+                print_last(rt, kept);
+                return;
+            }
+            Ok(n) => kept = list_piece(rt, hold, kept, octets::part_of(buf, 0, n), out),
         }
-        let n = io::count(got, buf);
-        if n == 0 {
-            print_last(kept);
-            return;
-        }
-        kept = list_piece(hold, kept, octets::part_of(buf, 0, n), out);
         if !kept.going {
             return;
         }
     }
 }
 
-fn main() {
+fn main(rt: HostRuntime) {
     let mut hold = room();
     let mut out = room();
-    let mut buf = io::buffer();
-    list_input(&mut hold, &mut out, &mut buf);
+    let mut buf = [0u8; 4096];
+    list_input(&rt, &mut rt.stdin(), &mut hold, &mut out, &mut buf);
 }

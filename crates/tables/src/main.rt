@@ -1,9 +1,15 @@
 // Judges the device tables that its arguments name, one line for each, or the one on its standard input where none is named; last it says on
 // standard error whether all are good, any is refused, or any could not be judged.
+#![tactic(auto)]
+
 ghost use Rattle.std.specs.Prelude.{◌≡◌, length};
 
-use libc::{STDERR_FILENO, STDIN_FILENO, STDOUT_FILENO};
 use lines::Why;
+use std::env::FillError;
+use std::fs::File;
+use std::io;
+use std::io::{ErrorKind, Read};
+use std::rt::{Env, Files};
 
 // What came of the files so far, worst last; of these the last one has been told already.
 const GOOD: u8 = 0;
@@ -21,19 +27,17 @@ enum Input {
     Not(Why),
 }
 
+// What the system says of a file whose rights keep it from being read; std's kind takes EPERM, which is something else, with it.
+const EACCES: i32 = 13;
+
 // Why a file could not be opened or read, by what the system says.
-fn why_not() -> Why {
-    let error = os::errno();
-    if error == libc::ENOENT {
-        return Why::Absent;
+fn why_not(error: &io::Error) -> Why {
+    match error.kind() {
+        ErrorKind::NotFound => Why::Absent,
+        ErrorKind::IsADirectory => Why::Folder,
+        ErrorKind::PermissionDenied if error.raw_os_error() == Some(EACCES) => Why::Barred,
+        _ => Why::Broken,
     }
-    if error == libc::EISDIR {
-        return Why::Folder;
-    }
-    if error == libc::EACCES {
-        return Why::Barred;
-    }
-    Why::Broken
 }
 
 // Room for 65,536 bytes, which no good table comes to, and one byte more.
@@ -44,18 +48,14 @@ fn room() -> [u8; 65537]
 }
 
 // Reads to the end of the input. A read that fails is told from the end, so that no beginning of a file is judged for the whole.
-fn read_all(fd: i32, buf: &mut [u8]) -> Input {
+fn read_all<R: Read>(input: &mut R, buf: &mut [u8]) -> Input {
     let mut done: usize = 0;
     while done < buf.len() {
-        let got = libc::read(fd, &mut buf[done..]);
-        if got < 0 {
-            return Input::Not(why_not());
+        match input.read(&mut buf[done..]) {
+            Err(error) => return Input::Not(why_not(&error)),
+            Ok(0) => return Input::Ended(done),
+            Ok(n) => done = done + n,
         }
-        let n = io::count(got, &buf[done..]);
-        if n == 0 {
-            return Input::Ended(done);
-        }
-        done = done + n;
     }
     Input::Not(Why::Longer)
 }
@@ -68,88 +68,104 @@ fn line_room() -> [u8; 4352]
 }
 
 // Writes a line by one call, and answers what it is told to where that could be done; where it could not, it says why.
-fn print_line(row: &[u8; 4352], length: usize, outcome: u8) -> u8 {
-    if io::write_all(STDOUT_FILENO, octets::part_of(row, 0, length)) {
-        return outcome;
+fn print_line(rt: &(impl Print + Eprint), row: &[u8; 4352], length: usize, outcome: u8) -> u8 {
+    match rt.write_all(octets::part_of(row, 0, length)) {
+        Ok(()) => outcome,
+        Err(error) => {
+            let _ = eprintln!(rt; "tables: standard output: {error}");
+            UNWRITTEN
+        }
     }
-    os::fail(b"tables: standard output");
-    UNWRITTEN
 }
 
-fn tell_judged(name: &[u8], table: &[u8]) -> u8 {
+fn tell_judged(rt: &(impl Print + Eprint), name: &[u8], table: &[u8]) -> u8 {
     let mut row = line_room();
     let length = lines::table_line(name, table, &mut row);
     let judged = devices::judge(table);
     if judged.verdict.is_good() {
-        return print_line(&row, length, GOOD);
+        return print_line(rt, &row, length, GOOD);
     }
-    print_line(&row, length, REFUSED)
+    print_line(rt, &row, length, REFUSED)
 }
 
-fn tell_unjudged(name: &[u8], why: Why) -> u8 {
+fn tell_unjudged(rt: &(impl Print + Eprint), name: &[u8], why: Why) -> u8 {
     let mut row = line_room();
     let length = lines::unjudged_line(name, why, &mut row);
-    print_line(&row, length, UNJUDGED)
+    print_line(rt, &row, length, UNJUDGED)
 }
 
-fn judge_input(fd: i32, name: &[u8]) -> u8 {
+fn judge_input<R: Read>(rt: &(impl Print + Eprint), input: &mut R, name: &[u8]) -> u8 {
     let mut buf = room();
-    match read_all(fd, &mut buf) {
-        Input::Ended(n) => tell_judged(name, octets::part_of(&buf, 0, n)),
-        Input::Not(why) => tell_unjudged(name, why),
+    match read_all(input, &mut buf) {
+        Input::Ended(n) => tell_judged(rt, name, octets::part_of(&buf, 0, n)),
+        Input::Not(why) => tell_unjudged(rt, name, why),
     }
 }
 
-// The file that an argument names; of one that is longer than a path may be the front is told.
-fn judge_file(i: usize) -> u8 {
-    let mut path = io::buffer();
-    let n = os::arg(i, &mut path);
-    if os::errno() != 0 {
-        return tell_unjudged(&path, Why::Broken);
+// The file that has this name; a name that is no text is of no file that can be opened here.
+fn judge_named(rt: &(impl Print + Eprint + Files), name: &[u8]) -> u8 {
+    match std::str::from_utf8(name) {
+        Err(_) => tell_unjudged(rt, name, Why::Broken),
+        Ok(text) => match File::open(rt, text) {
+            Err(error) => tell_unjudged(rt, name, why_not(&error)),
+            Ok(mut file) => judge_input(rt, &mut file, name),
+        },
     }
-    let name = &path[..n];
-    let fd = os::open_read(name);
-    if fd < 0 {
-        return tell_unjudged(name, why_not());
+}
+
+// The file that an argument names, if there is one; of one that is longer than a path may be the front is told.
+fn judge_file(rt: &(impl Print + Eprint + Files + Env), i: usize) -> Option<u8> {
+    let mut path = [0u8; 4096];
+    match rt.arg(i, &mut path) {
+        Err(FillError::NotPresent) => None,
+        Err(FillError::TooLong) => Some(tell_unjudged(rt, &path, Why::Broken)),
+        Ok(n) => Some(judge_named(rt, octets::part_of(&path, 0, n))),
     }
-    let outcome = judge_input(fd, name);
-    libc::close(fd);
-    outcome
 }
 
 // The files that the arguments name, to the first line that cannot be written; the worst of what came of them.
-fn judge_files(count: usize) -> u8 {
+fn judge_files(rt: &(impl Print + Eprint + Files + Env)) -> u8 {
     let mut worst = GOOD;
-    let mut i: usize = 1;
-    while i < count {
-        let outcome = judge_file(i);
-        if outcome == UNWRITTEN {
-            return UNWRITTEN;
+    for i in 1..usize::MAX {
+        match judge_file(rt, i) {
+            None => return worst,
+            Some(outcome) => {
+                if outcome == UNWRITTEN {
+                    return UNWRITTEN;
+                }
+                if worst < outcome {
+                    worst = outcome;
+                }
+            }
         }
-        if worst < outcome {
-            worst = outcome;
-        }
-        i = i + 1;
     }
     worst
 }
 
-// The result in one word, which a script turns into an exit status.
-fn conclude(outcome: u8) {
-    if outcome == GOOD {
-        io::write_all(STDERR_FILENO, b"good\n");
-    } else if outcome == REFUSED {
-        io::write_all(STDERR_FILENO, b"refused\n");
-    } else if outcome == UNJUDGED {
-        io::write_all(STDERR_FILENO, b"unjudged\n");
+// Whether an argument names a file.
+fn is_named(rt: &impl Env) -> bool {
+    let mut first = [0u8; 1];
+    match rt.arg(1, &mut first) {
+        Err(FillError::NotPresent) => false,
+        _ => true,
     }
 }
 
-fn main() {
-    let count = os::arg_count();
-    if count < 2 {
-        conclude(judge_input(STDIN_FILENO, b"-"));
+// The result in one word, which a script turns into an exit status.
+fn conclude(rt: &impl Eprint, outcome: u8) {
+    if outcome == GOOD {
+        let _ = eprintln!(rt; "good");
+    } else if outcome == REFUSED {
+        let _ = eprintln!(rt; "refused");
+    } else if outcome == UNJUDGED {
+        let _ = eprintln!(rt; "unjudged");
+    }
+}
+
+fn main(rt: HostRuntime) {
+    if is_named(&rt) {
+        conclude(&rt, judge_files(&rt));
         return;
     }
-    conclude(judge_files(count));
+    conclude(&rt, judge_input(&rt, &mut rt.stdin(), b"-"));
 }
