@@ -29,23 +29,19 @@ build() {
     [ -e "$root/crates.txt" ] || return 0
     ! is_built "$program" || return 0
     [ -w "$root" ] || die "the program is not built of these sources, and $root cannot be written"
-    printf '%s: proving and building the program, some three minutes on two cores\n' "$name" >&2
-    build_by_rt "$program" check "$name" || die "the program could not be built"
+    printf '%s: proving and building the program, some eight minutes where nothing was kept\n' "$name" >&2
+    build_program "$name" || die "the program could not be built"
 }
 
-# The program is x86-64 code: elsewhere an emulator, the kit's or Debian's, runs it with the kit's C library.
+# The program is x86-64 code: elsewhere an emulator, Debian's, runs it with the kit's C library.
 find_runner() {
     run=("$program")
     if [ "$(uname -m)" != x86_64 ]; then
         command -v rt >/dev/null || die "the command rt of the Rattle kit is needed and is not on the PATH"
-        local kit tools emulator
-        kit=${RATTLE_HOME:-$(dirname "$(dirname "$(readlink -f "$(command -v rt)")")")}
-        tools=$kit/on/$(uname -m)/toolchain
-        emulator=$tools/bin/qemu-x86_64
-        if [ ! -x "$emulator" ]; then
-            emulator=$(command -v qemu-x86_64 || command -v qemu-x86_64-static) || die "no qemu-x86_64 is here (Debian: qemu-user)"
-        fi
-        run=("$emulator" "$tools/lib/ld-linux-x86-64.so.2" --library-path "$tools/lib" "$program")
+        local libraries emulator
+        libraries=$(dirname "$(rt doc)")/toolchain/lib
+        emulator=$(command -v qemu-x86_64 || command -v qemu-x86_64-static) || die "no qemu-x86_64 is here (Debian: qemu-user)"
+        run=("$emulator" "$libraries/ld-linux-x86-64.so.2" --library-path "$libraries" "$program")
     fi
 }
 

@@ -17,8 +17,8 @@ build_release() {
         [ -w "$root" ] || die "$file is not built of these sources, and $root cannot be written"
         printf '%s: proving and building %s\n' "$name" "${file##*/}" >&2
         case $file in
-        staticlib/*) build_by_rt "$root/target/$file" staticlib trawnosz ;;
-        bin/*) build_by_rt "$root/target/$file" check "${file##*/}" ;;
+        staticlib/*) build_archive ;;
+        bin/*) build_program "${file##*/}" ;;
         esac || die "${file##*/} could not be built"
     done
 }

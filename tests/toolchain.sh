@@ -60,7 +60,7 @@ archive() {
         return 0
     fi
     local said
-    is_built "$library" || said=$(build_by_rt "$library" staticlib trawnosz 2>&1) || {
+    is_built "$library" || said=$(build_archive 2>&1) || {
         printf '%s\nthe library could not be built\n' "$said" >&2
         return 1
     }
