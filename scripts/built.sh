@@ -40,8 +40,8 @@ build_by_rt() {
     # rt leaves what it made before where it proves nothing.
     rm -f "$file.built" "$made" "$made.stamp"
     sum=$(sources_sum)
-    # Of `rt run`, which builds a program, nothing is wanted but that: it runs here on no input.
-    (cd "$crate" && rt "$@" </dev/null >&2) && [ -e "$made" ] || return 1
+    # `rt run` runs what it built too, here on no input, and what that prints is not wanted; rt itself speaks on standard error.
+    (cd "$crate" && rt "$@" </dev/null >/dev/null) && [ -e "$made" ] || return 1
     mkdir -p "$(dirname "$file")" && cp "$made" "$file.new" && mv -f "$file.new" "$file" || return 1
     printf '%s\n%s\n' "$sum" "$(kit_identity)" >"$file.built"
 }
