@@ -29,7 +29,7 @@ build() {
     [ -e "$root/crates.txt" ] || return 0
     ! is_built "$program" || return 0
     [ -w "$root" ] || die "the program is not built of these sources, and $root cannot be written"
-    printf '%s: proving and building the program, some eight minutes where nothing was kept\n' "$name" >&2
+    printf '%s: proving and building the program, some five minutes on four cores where nothing was kept\n' "$name" >&2
     build_program "$name" || die "the program could not be built"
 }
 
