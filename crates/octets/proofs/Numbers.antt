@@ -69,13 +69,13 @@ pub ruleset numbers = (low-behind, of_two, of_four, four-alone)
 pub length-bytes : (n x : ℕ) → length (bytes_of n x) ≡ n
 unfolding bytes_of
 length-bytes zero x = refl
-length-bytes (suc n) x = ap suc (length-bytes n (x / 256))
+length-bytes (suc n) x = ap suc (length-bytes n _)
 
 pub octets-bytes : (n x : ℕ) → Octets (bytes_of n x)
 unfolding bytes_of
 octets-bytes zero x i = omega arith
 octets-bytes (suc n) x zero = omega arith
-octets-bytes (suc n) x (suc i) = octets-bytes n (x / 256) i
+octets-bytes (suc n) x (suc i) = octets-bytes n _ i
 
 octets-take : (n : ℕ) (s : List ℕ) → Octets s → Octets (take n s)
 octets-take zero s h i = omega arith

@@ -3,14 +3,14 @@ use Prim.Native.Nat.{ℕ, zero, suc, ◌-◌, ◌≤◌, ◌<◌}
 use native.Mathlib.Nat.{zero-add}
 use native.Mathlib.Omega.{arith}
 use mathlib.Core.Bool.{Bool, true, false, true≢false, false≢true}
-use mathlib.Core.Path.{◌≡◌, refl, sym, ap, ◌∙◌}
+use mathlib.Core.Path.{◌≡◌, refl, sym, ap, subst, ◌∙◌}
 use borrow.Author.Tests.{lt-ltb, le-ltb, ltb-true, ltb-false}
 use lib.Dec.{T, ltb, leb-zero}
 use lib.IntN.{ℤ, pos, negsuc, nat_abs, ◌-ℤ◌}
 use lib.Signed.{mag, le_z, non_neg}
-use mir.Facts.{to_z_pos}
+use mir.Facts.{to_z_pos, to_z-of_z}
 use mir.Syntax.{w16}
-use mir.Val.{SFits, to_z}
+use mir.Val.{SFits, to_z, of_z}
 use Rattle.octets.specs.Numbers.{signed_of, bits_of}
 
 pub signed_low : (x : ℕ) → x < 32768 → signed_of x ≡ pos x
@@ -59,6 +59,18 @@ signed-turned x l h =
 
 pub signed-fits : (x : ℕ) → 32768 ≤ x → x < 65536 → SFits w16 (signed_of x)
 signed-fits x l h = simp (signed_high x l h) (record { sfits = omega arith })
+
+-- the number as the code has it, on either side
+pub below-signed : (x : ℕ) → x < 32768 → to_z w16 x ≡ signed_of x
+below-signed x h = to_z_pos w16 h ∙ sym (signed_low x h)
+
+pub turned-fits : (x : ℕ) → 32768 ≤ x → x < 65536 → SFits w16 (negsuc 0 -ℤ to_z w16 (65535 - x))
+turned-fits x l h = subst (SFits w16) (sym (signed-turned x l h)) (signed-fits x l h)
+
+pub turned-back : (x : ℕ) → 32768 ≤ x → x < 65536 → to_z w16 (of_z w16 (negsuc 0 -ℤ to_z w16 (65535 - x))) ≡ signed_of x
+turned-back x l h = to_z-of_z (turned-fits x l h) ∙ signed-turned x l h
+
+pub ruleset signing = (below-signed, turned-fits, turned-back)
 
 pub bits_pos : (z : ℤ) → le_z (pos 0) z ≡ true → T (non_neg z) × (nat_abs z ≡ bits_of z)
 unfolding bits_of

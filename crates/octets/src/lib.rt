@@ -117,6 +117,7 @@ pub fn four_bytes(x: u32) -> [u8; 4]
 }
 
 // The signed number that two bytes stand for.
+#[tactic(auto, using(crate::proofs::Signs::signing))]
 pub fn signed(x: u16) -> i16
     ensures { result ≡ signed_of x }
 {
@@ -151,6 +152,7 @@ pub fn part_of(s: &[u8], from: usize, to: usize) -> &[u8]
 }
 
 // Bytes put at a place of a lent row; what does not fit changes nothing.
+#[tactic(auto, using(crate::proofs::Copying::copying))]
 pub fn put(out: &mut [u8], at: usize, bytes: &[u8])
     ensures { out.new ≡ put_at out.old at bytes.now }
 {
@@ -175,6 +177,7 @@ pub fn sum(s: &[u8]) -> u8
 }
 
 // At most the first 1,049 bytes added up and nothing dropped, so that two rows can be added before the drop.
+#[tactic(auto, using(crate::proofs::Sums::short))]
 pub fn added(s: &[u8]) -> u32
     ensures value { result ≡ total (take 1049 s.now) }
     ensures upper_bound { result ≤ 267495 }
