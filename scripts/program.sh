@@ -54,8 +54,8 @@ needs_input() {
     [ ! -t 0 ] || printf '%s: reading standard input, a terminal; its end is Ctrl-D\n' "$name" >&2
 }
 
-# run_program WORDS...: runs it, what it says on standard error in `said`, how it ended in `status`. A program of the kit has no exit status
-# of its own: what it says tells how it went.
+# run_program WORDS...: runs it, what it says on standard error in `said`, how it ended in `status`. The programs have no exit status of
+# their own: what they say tells how it went.
 run_program() {
     build
     find_runner
