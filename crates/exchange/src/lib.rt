@@ -410,6 +410,7 @@ impl Draft {
 }
 
 // The mode that a command opens.
+#[tactic(auto, unfolding(crate::specs::Begins::mode_of))]
 fn mode_of(command: u8) -> u16
     ensures { result ≡ mode_of command }
 {

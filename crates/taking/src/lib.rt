@@ -73,6 +73,7 @@ fn role_in(good: bool, command: u8) -> Role
     Role::Other
 }
 
+#[tactic(auto, unfolding(crate::specs::Takes::role_in))]
 fn role_of_good(command: u8) -> Role
     ensures { result ≡ role_in true command }
 {
