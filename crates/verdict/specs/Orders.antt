@@ -1,9 +1,13 @@
 -- Document 01, "Orders": a list of tests, each with its refusal; the first that fails decides.
 -- Assumes nothing.
-use Rattle.std.specs.Prelude.{ℕ, Bool, true, not, ◌&&◌, cond, ◌≡◌, List, [], ◌∷◌, eqb}
+use Rattle.std.specs.Prelude.{ℕ, Bool, true, not, ◌&&◌, cond, ◌≡◌, List, [], ◌∷◌, eqb, Result, Ok, Err}
+use Rattle.std.specs.declared.ops.Range.{Range}
 use Rattle.octets.specs.Parts.{part, part_place}
 use Rattle.verdict.specs.declared.Verdict.{Verdict}
 use Rattle.verdict.specs.declared.Part.{Part}
+use Rattle.verdict.specs.declared.Refusal.{Refusal}
+use Rattle.verdict.specs.declared.Refused.{Refused}
+use Rattle.verdict.specs.Refusals.{number_of}
 
 -- "A refusal returns its number and place (0 where none is named)"
 abbrev pub refusal : ℕ → ℕ → Verdict
@@ -18,6 +22,19 @@ is_good v = eqb v.number 0
 -- "an empty part where a part is due"
 abbrev pub no_part : Verdict → Part
 no_part v = record { verdict = v; from = 0; to = 0 }
+
+abbrev pub refused_at : Refusal → ℕ → Refused
+refused_at r p = record { refusal = r; place = p }
+
+-- an answer as this paper's number and place: good, or its refusal's
+abbrev pub told : {A : Type 0} → Result A Refused → Verdict
+told (Ok x) = good
+told (Err e) = refusal (number_of e.refusal) e.place
+
+-- and the same of an answer that is a part
+abbrev pub placed : Result (Range ℕ) Refused → Part
+placed (Ok r) = record { verdict = good; from = r.start; to = r.end }
+placed (Err e) = no_part (refusal (number_of e.refusal) e.place)
 
 -- a part that stands from one place to another, unless it is refused
 unfoldable pub part_by : Verdict → ℕ → ℕ → Part
