@@ -3,3 +3,4 @@ pub mod Order
 pub mod Walking
 pub mod Readings
 pub mod Handing
+pub mod Told

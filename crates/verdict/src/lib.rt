@@ -197,20 +197,26 @@ impl From<Refusal> for Refused {
     }
 }
 
+impl From<Refused> for Verdict {
+    ghost from_gives = { λ refused verdict. verdict ≡ refusal (number_of refused.refusal) refused.place };
+
+    #[inline]
+    fn from(refused: Refused) -> Verdict {
+        Verdict {
+            number: refused.refusal.number(),
+            place: refused.place,
+        }
+    }
+}
+
 impl<T: Copy> From<Result<T, Refused>> for Verdict {
     ghost from_gives = { λ answer verdict. verdict ≡ told answer };
 
     #[inline]
     fn from(answer: Result<T, Refused>) -> Verdict {
         match answer {
-            Ok(_) => Verdict {
-                number: 0,
-                place: 0,
-            },
-            Err(refused) => Verdict {
-                number: refused.refusal.number(),
-                place: refused.place,
-            },
+            Ok(_) => Verdict::good(),
+            Err(refused) => Verdict::from(refused),
         }
     }
 }
@@ -222,18 +228,12 @@ impl From<Result<Range<usize>, Refused>> for Part {
     fn from(answer: Result<Range<usize>, Refused>) -> Part {
         match answer {
             Ok(place) => Part {
-                verdict: Verdict {
-                    number: 0,
-                    place: 0,
-                },
+                verdict: Verdict::good(),
                 from: place.start,
                 to: place.end,
             },
             Err(refused) => Part {
-                verdict: Verdict {
-                    number: refused.refusal.number(),
-                    place: refused.place,
-                },
+                verdict: Verdict::from(refused),
                 from: 0,
                 to: 0,
             },
@@ -304,6 +304,7 @@ pub const LONG: u8 = 28;
 pub const CENTRE: u8 = 30;
 
 impl Verdict {
+    #[inline]
     pub fn good() -> Verdict
         ensures { result ≡ good }
     {
