@@ -8,9 +8,9 @@ use mathlib.Core.Path.{◌≡◌, refl}
 use borrow.Author.Tests.{eqb-true}
 use lib.Dec.{eqb}
 use lib.ListN.{length}
-use Rattle.reading.specs.declared.Event.TheVariants.{Noise}
-use Rattle.reading.specs.declared.Standing.{Standing}
-use Rattle.reading.specs.declared.Standing.TheVariants.{Wait, Skip, Hit}
+use Rattle.reading.specs.Events.Event.{Noise}
+use Rattle.reading.specs.Events.{Standing}
+use Rattle.reading.specs.Events.Standing.{Wait, Skip, Hit}
 use Rattle.reading.specs.Values.{start_byte}
 use Rattle.reading.specs.Standing.{stands}
 use Rattle.reading.specs.Finding.{noise_at, after, read_on, reading}

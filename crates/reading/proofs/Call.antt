@@ -15,7 +15,7 @@ use Rattle.verdict.specs.declared.Verdict.{Verdict}
 use Rattle.verdict.specs.Refusals.{STATE, ROOM}
 use Rattle.verdict.specs.Orders.{in_order, refusal, good, is_good}
 use Rattle.verdict.proofs.Order.{passed, failed}
-use Rattle.reading.specs.declared.Step.{Step}
+use Rattle.reading.specs.Events.{Step}
 use Rattle.octets.specs.Searches.{all_zero}
 use Rattle.reading.specs.Calls.{State, fresh, held_bytes, sound, call_tests, rest_of, answer_by, refused_call, called}
 use Rattle.reading.proofs.Found.{Asked, Gave}

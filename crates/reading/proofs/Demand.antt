@@ -14,9 +14,9 @@ use Rattle.frame.specs.Frame.{room}
 use Rattle.verdict.specs.declared.Verdict.{Verdict}
 use Rattle.verdict.specs.Orders.{in_order, good}
 use Rattle.verdict.proofs.Order.{all-passed}
-use Rattle.reading.specs.declared.Event.TheVariants.{More, Refused}
-use Rattle.reading.specs.declared.Standing.TheVariants.{Wait}
-use Rattle.reading.specs.declared.Step.{Step}
+use Rattle.reading.specs.Events.Event.{More, Refused}
+use Rattle.reading.specs.Events.Standing.{Wait}
+use Rattle.reading.specs.Events.{Step}
 use Rattle.reading.specs.Values.{asks, packet_of}
 use Rattle.reading.specs.Standing.{stands}
 use Rattle.reading.specs.Finding.{first, Heard, Reading, after, read_on, reading}

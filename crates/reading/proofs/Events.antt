@@ -8,10 +8,9 @@ use lib.Dec.{leb, eqb}
 use lib.ListN.{length, get_or}
 use Rattle.frame.specs.Frame.{packet_length, unit_length, ended, summed}
 use Rattle.verdict.specs.Refusals.{STATE, ROOM}
-use Rattle.reading.specs.declared.Event.{Event}
-use Rattle.reading.specs.declared.Event.TheVariants.{More, Noise, Length, End, Sum, Packet, Refused}
-use Rattle.reading.specs.declared.Standing.{Standing}
-use Rattle.reading.specs.declared.Standing.TheVariants.{Wait, Skip, Hit}
+use Rattle.reading.specs.Events.{Event, Standing}
+use Rattle.reading.specs.Events.Event.{More, Noise, Length, End, Sum, Packet, Refused}
+use Rattle.reading.specs.Events.Standing.{Wait, Skip, Hit}
 use Rattle.reading.specs.Values.{MORE, told, asks}
 use Rattle.reading.specs.Standing.{judged_frame, started, stands}
 use Rattle.reading.specs.Finding.{noise_at, onward, more, noise, hit, found, first}

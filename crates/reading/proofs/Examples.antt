@@ -12,8 +12,8 @@ use Rattle.octets.specs.Numbers.{low_first}
 use Rattle.octets.specs.Sums.{total}
 use Rattle.octets.proofs.Examples.{A}
 use Rattle.verdict.specs.Orders.{in_order}
-use Rattle.reading.specs.declared.Event.{Event}
-use Rattle.reading.specs.declared.Event.TheVariants.{More, Noise, Length, End, Sum, Packet, Refused}
+use Rattle.reading.specs.Events.{Event}
+use Rattle.reading.specs.Events.Event.{More, Noise, Length, End, Sum, Packet, Refused}
 use Rattle.reading.specs.Values.{told, packet_of}
 use Rattle.reading.specs.Standing.{when_there, judged_frame, started, stands}
 use Rattle.reading.specs.Finding.{noise_at, onward, more, noise, hit, found, first, read_on, reading, Heard, Reading}

@@ -10,11 +10,9 @@ use borrow.Author.Tests.{eqb-true, eqb-false}
 use lib.Dec.{eqb}
 use lib.ListN.{length, take, drop, length-take, take-append-drop}
 use Rattle.frame.specs.Frame.{room}
-use Rattle.reading.specs.declared.Event.{Event}
-use Rattle.reading.specs.declared.Event.TheVariants.{More, Noise}
-use Rattle.reading.specs.declared.Standing.{Standing}
-use Rattle.reading.specs.declared.Standing.TheVariants.{Wait, Skip, Hit}
-use Rattle.reading.specs.declared.Step.{Step}
+use Rattle.reading.specs.Events.{Event, Standing, Step}
+use Rattle.reading.specs.Events.Event.{More, Noise}
+use Rattle.reading.specs.Events.Standing.{Wait, Skip, Hit}
 use Rattle.reading.specs.Values.{asks, told, packet_of}
 use Rattle.reading.specs.Standing.{stands}
 use Rattle.reading.specs.Finding.{noise_at, onward, more, noise, hit, found, first, Heard, Reading, after, read_on, reading}

@@ -14,10 +14,9 @@ use lib.Seq.{take_at, drop_at, length-take-le}
 use Rattle.frame.specs.Frame.{packet_length, unit_length, ended, summed, frame_tests}
 use Rattle.frame.proofs.Framed.{Framed, good-framed, framed-good, framed-front}
 use Rattle.verdict.specs.Orders.{in_order, good, is_good}
-use Rattle.reading.specs.declared.Event.{Event}
-use Rattle.reading.specs.declared.Event.TheVariants.{More, Noise, Length, End, Sum, Packet, Refused}
-use Rattle.reading.specs.declared.Standing.{Standing}
-use Rattle.reading.specs.declared.Standing.TheVariants.{Wait, Skip, Hit}
+use Rattle.reading.specs.Events.{Event, Standing}
+use Rattle.reading.specs.Events.Event.{More, Noise, Length, End, Sum, Packet, Refused}
+use Rattle.reading.specs.Events.Standing.{Wait, Skip, Hit}
 use Rattle.reading.specs.Values.{PACKET, told, packet_of}
 use Rattle.reading.specs.Standing.{when_there, judged_frame, started, stands}
 use Rattle.reading.specs.Finding.{noise_at, Heard, after, read_on, reading}

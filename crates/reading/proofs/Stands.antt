@@ -10,9 +10,9 @@ use lib.Dec.{leb, eqb}
 use lib.ListN.{length, get_or, take, drop, length-append, length-take, get_or-append, take-append-drop}
 use Rattle.frame.specs.Frame.{packet_length, room, unit_length, ended, summed}
 use Rattle.frame.proofs.Framed.{unit_kept, ended-kept, summed_kept}
-use Rattle.reading.specs.declared.Event.TheVariants.{Length}
-use Rattle.reading.specs.declared.Standing.{Standing}
-use Rattle.reading.specs.declared.Standing.TheVariants.{Wait, Skip, Hit}
+use Rattle.reading.specs.Events.Event.{Length}
+use Rattle.reading.specs.Events.{Standing}
+use Rattle.reading.specs.Events.Standing.{Wait, Skip, Hit}
 use Rattle.reading.specs.Values.{asks}
 use Rattle.reading.proofs.Worths.{worth}
 use Rattle.reading.specs.Standing.{when_there, judged_frame, started, stands}

@@ -5,8 +5,8 @@ use mathlib.Core.List.{List, ◌++◌}
 use mathlib.Core.Path.{◌≡◌, refl}
 use lib.ListN.{length, take, length-take}
 use lib.Seq.{take-append-le, take_at, length-take-le}
-use Rattle.reading.specs.declared.Event.{Event}
-use Rattle.reading.specs.declared.Event.TheVariants.{More, Noise, Length, End, Sum, Packet, Refused}
+use Rattle.reading.specs.Events.{Event}
+use Rattle.reading.specs.Events.Event.{More, Noise, Length, End, Sum, Packet, Refused}
 use Rattle.reading.specs.Values.{told, start_byte, packet_of}
 
 unfoldable pub worth : Event → ℕ

@@ -6,9 +6,8 @@ use Rattle.octets.specs.Searches.{all_zero}
 use Rattle.verdict.specs.declared.Verdict.{Verdict}
 use Rattle.verdict.specs.Refusals.{STATE, ROOM}
 use Rattle.verdict.specs.Orders.{Test, ◌or_else◌, in_order, good, is_good}
-use Rattle.reading.specs.declared.Event.{Event}
-use Rattle.reading.specs.declared.Event.TheVariants.{Refused}
-use Rattle.reading.specs.declared.Step.{Step}
+use Rattle.reading.specs.Events.{Event, Step}
+use Rattle.reading.specs.Events.Event.{Refused}
 use Rattle.reading.specs.Values.{packet_of}
 use Rattle.reading.specs.Finding.{first}
 

@@ -1,11 +1,9 @@
 -- Document 01, "Reading a stream": what the reading finds first, and the reading of a whole stream.
 -- Assumes nothing.
 use Rattle.std.specs.Prelude.{ℕ, zero, suc, ◌-◌, cond, List, [], ◌∷◌, eqb, length}
-use Rattle.reading.specs.declared.Event.{Event}
-use Rattle.reading.specs.declared.Event.TheVariants.{More, Noise}
-use Rattle.reading.specs.declared.Standing.{Standing}
-use Rattle.reading.specs.declared.Standing.TheVariants.{Wait, Skip, Hit}
-use Rattle.reading.specs.declared.Step.{Step}
+use Rattle.reading.specs.Events.{Event, Standing, Step}
+use Rattle.reading.specs.Events.Event.{More, Noise}
+use Rattle.reading.specs.Events.Standing.{Wait, Skip, Hit}
 use Rattle.reading.specs.Values.{packet_of}
 use Rattle.reading.specs.Standing.{stands}
 

@@ -2,9 +2,9 @@
 -- Assumes nothing.
 use Rattle.std.specs.Prelude.{ℕ, cond, List, leb, eqb, length, get_or}
 use Rattle.frame.specs.Frame.{packet_length, unit_length, ended, summed}
-use Rattle.reading.specs.declared.Event.TheVariants.{Length, End, Sum, Packet}
-use Rattle.reading.specs.declared.Standing.{Standing}
-use Rattle.reading.specs.declared.Standing.TheVariants.{Wait, Skip, Hit}
+use Rattle.reading.specs.Events.Event.{Length, End, Sum, Packet}
+use Rattle.reading.specs.Events.{Standing}
+use Rattle.reading.specs.Events.Standing.{Wait, Skip, Hit}
 
 -- "too few bytes to decide: ask for more"
 unfoldable pub when_there : ℕ → List ℕ → Standing → Standing

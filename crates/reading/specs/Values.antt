@@ -2,9 +2,8 @@
 -- Assumes nothing.
 use Rattle.std.specs.Prelude.{ℕ, Bool, true, false, List, take}
 use Rattle.verdict.specs.Refusals.{LENGTH, END, SUM}
-use Rattle.reading.specs.declared.Event.{Event}
-use Rattle.reading.specs.declared.Event.TheVariants.{More, Noise, Length, End, Sum, Packet, Refused}
-use Rattle.reading.specs.declared.Told.{Told}
+use Rattle.reading.specs.Events.{Event, Told}
+use Rattle.reading.specs.Events.Event.{More, Noise, Length, End, Sum, Packet, Refused}
 
 -- numbers of our own, outside 1 to 31, which documents 01 and 02 use
 abbrev pub MORE : ℕ

@@ -1,11 +1,15 @@
-// What a stream of line bytes is read as: the events, and what a position and a run of bytes show.
+//! What is heard on a stream of line bytes: the events.
 #![tactic(auto)]
 
-ghost use Rattle.std.specs.Prelude.{◌≡◌};
+ghost use Rattle.std.specs.Prelude.{◌≡◌, Some};
+ghost use Rattle.reading.specs.Events.{event_of, name_of};
 ghost use Rattle.reading.specs.Values.{told};
 
-// One event, or the wish for more; a refused call answers its refusal.
-#[derive(Clone, Copy)]
+use std::fmt;
+use verdict::Refusal;
+
+/// One event, or the wish for more.
+#[derive(Clone, Copy, Debug, PartialEq, Eq, Hash)]
 pub enum Event {
     More,
     Noise,
@@ -13,37 +17,9 @@ pub enum Event {
     End,
     Sum,
     Packet(usize),
-    Refused(u8),
 }
 
-// What stands at a position: too few bytes to decide, a byte to skip with so many bytes looked at, or an event with the
-// bytes looked at and the bytes passed.
-#[derive(Clone, Copy)]
-pub enum Standing {
-    Wait,
-    Skip(usize),
-    Hit(Event, usize, usize),
-}
-
-// What the reading finds first: the event with the count that it carries, where it stands, how many bytes were looked at,
-// the next position, and the count from there on.
-#[derive(Clone, Copy)]
-pub struct Step {
-    pub event: Event,
-    pub carried: usize,
-    pub at: usize,
-    pub looked: usize,
-    pub next: usize,
-    pub count: usize,
-}
-
-// An event as numbers: document 01's number, or one of our own, and the packet's length.
-#[derive(Clone, Copy)]
-pub struct Told {
-    pub number: u8,
-    pub length: usize,
-}
-
+/// The events that are no refused start have numbers of our own, which C sees.
 pub const MORE: u8 = 32;
 
 pub const NOISE: u8 = 33;
@@ -51,35 +27,53 @@ pub const NOISE: u8 = 33;
 pub const PACKET: u8 = 34;
 
 impl Event {
-    pub fn told(self) -> Told
-        ensures { result ≡ told self }
+    /// The number that C sees: document 01's, or one of our own.
+    #[inline]
+    #[tactic(auto, unfolding(crate::specs::Values::told))]
+    pub fn number(self) -> u8
+        ensures { result ≡ (told (event_of self)).number }
     {
         match self {
-            Event::More => Told {
-                number: MORE,
-                length: 0,
-            },
-            Event::Noise => Told {
-                number: NOISE,
-                length: 0,
-            },
-            Event::Length => Told {
-                number: verdict::LENGTH,
-                length: 0,
-            },
-            Event::End => Told {
-                number: verdict::END,
-                length: 0,
-            },
-            Event::Sum => Told {
-                number: verdict::SUM,
-                length: 0,
-            },
-            Event::Packet(length) => Told {
-                number: PACKET,
-                length,
-            },
-            Event::Refused(number) => Told { number, length: 0 },
+            Event::More => MORE,
+            Event::Noise => NOISE,
+            Event::Length => Refusal::Length.number(),
+            Event::End => Refusal::End.number(),
+            Event::Sum => Refusal::Sum.number(),
+            Event::Packet(_) => PACKET,
         }
+    }
+
+    /// The packet's length, 0 where there is none.
+    #[inline]
+    #[tactic(auto, unfolding(crate::specs::Values::told))]
+    pub fn length(self) -> usize
+        ensures { result ≡ (told (event_of self)).length }
+    {
+        match self {
+            Event::Packet(length) => length,
+            _ => 0,
+        }
+    }
+
+    /// The name that the programs print.
+    pub fn name(self) -> &'static str
+        ensures { result.now ≡ name_of self }
+    {
+        match self {
+            Event::More => "MORE",
+            Event::Noise => "NOISE",
+            Event::Length => Refusal::Length.name(),
+            Event::End => Refusal::End.name(),
+            Event::Sum => Refusal::Sum.name(),
+            Event::Packet(_) => "PACKET",
+        }
+    }
+}
+
+impl fmt::Display for Event {
+    ghost output = { λ event. Some (name_of event) };
+
+    fn fmt<W: fmt::Write>(&self, f: &mut fmt::Formatter<W>) -> fmt::Result {
+        f.write_str(self.name())
     }
 }
