@@ -7,38 +7,25 @@ use mathlib.Core.Path.{◌≡◌, refl, sym, ap, ◌∙◌}
 use borrow.Author.Tests.{leb-false, le-leb, lt-leb}
 use lib.Dec.{leb}
 use lib.ListN.{length}
-use Rattle.octets.specs.Parts.{part, put_at}
+use Rattle.octets.specs.Parts.{put_at}
 use Rattle.octets.proofs.Parts.{put-none}
-use Rattle.verdict.specs.declared.Verdict.{Verdict}
 use Rattle.verdict.specs.declared.Part.{Part}
 use Rattle.verdict.specs.Orders.{in_order, refusal, good, is_good, no_part, part_by}
 use Rattle.verdict.specs.Refusals.{ROOM}
-use Rattle.naming.specs.declared.Name.{Name}
-use Rattle.naming.specs.Names.{letters, name_of}
 use Rattle.naming.specs.Fronts.{front_part}
-use Rattle.naming.proofs.Naming.{name-part}
 
-module _ (t out : List ℕ) where
-  pub short-part : (p : Part) (v : Verdict) → length out < length t → v ≡ refusal ROOM 0 → p ≡ no_part v → p ≡ front_part t out
-  unfolding front_part part_by in_order
-  short-part p v h e f = f ∙ ap no_part e ∙ simp (lt-leb (length t) (length out) h)
+-- a text that is longer than the row
+pub short_part : (t out : List ℕ) → length out < length t → front_part t out ≡ no_part (refusal ROOM 0)
+unfolding front_part part_by in_order
+short_part t out h = simp (lt-leb (length t) (length out) h)
 
-  pub short-kept : length out < length t → out ≡ put_at out 0 t
-  short-kept h = sym (put-none out 0 t (omega arith))
+pub short_kept : (t out : List ℕ) → length out < length t → put_at out 0 t ≡ out
+short_kept t out h = put-none out 0 t (omega arith)
 
-  pub room-part : (v : Verdict) → length t ≤ length out → v ≡ good → record { verdict = v; from = 0; to = length t } ≡ front_part t out
-  unfolding front_part part_by in_order
-  room-part v h e = ap (λ (w : Verdict). record { verdict = w; from = 0; to = length t }) e ∙ simp (le-leb (length t) (length out) h)
-
--- the letters of a name, handed on
-module _ (n : ℕ) (m : Name) (x out : List ℕ) (e : m ≡ name_of n) (f : x ≡ part m.bytes 0 m.length) where
-  pub name-told : (p : Part) → p ≡ front_part x out → p ≡ front_part (letters n) out
-  name-told p q = q ∙ ap (λ (t : List ℕ). front_part t out) (f ∙ name-part n m e)
-
-  pub name-put : (o : List ℕ) → o ≡ put_at out 0 x → o ≡ put_at out 0 (letters n)
-  name-put o q = q ∙ ap (put_at out 0) (f ∙ name-part n m e)
-
-pub ruleset fronts = (short-part, short-kept, room-part, name-told, name-put)
+-- and one that fits
+pub room_part : (t out : List ℕ) → length t ≤ length out → front_part t out ≡ record { verdict = good; from = 0; to = length t }
+unfolding front_part part_by in_order
+room_part t out h = simp (le-leb (length t) (length out) h)
 
 -- a refusal writes nothing and stands nowhere
 pub front-refused : (t out o : List ℕ) (p : Part) → p ≡ front_part t out → o ≡ put_at out 0 t → is_good p.verdict ≡ false → (p ≡ no_part p.verdict) × (o ≡ out)

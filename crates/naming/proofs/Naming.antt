@@ -1,82 +1,111 @@
 -- The table of names: what stands at each number, that every row's number gives its name, and that no two numbers have one name.
 -- Computed over the one table. Assumes nothing.
-use Prim.Native.Nat.{ℕ, ◌-◌}
-use native.Mathlib.Nat.{sub-zero}
+use Prim.Native.Nat.{ℕ, ◌≤◌}
 use native.Mathlib.Omega.{arith}
-use mathlib.Core.Bool.{Bool, true, false, ◌&&◌, cond, and-eq-true_iff}
-use mathlib.Core.List.{List, [], ◌∷◌, ◌++◌, map}
+use mathlib.Core.Bool.{Bool, true, false, cond, and-eq-true_iff}
+use mathlib.Core.List.{List, [], ◌∷◌, map}
 use mathlib.Core.Path.{◌≡◌, refl, sym, ap, ◌∙◌}
-use borrow.Author.Tests.{eqb-true, ne_eqb}
-use lib.Dec.{eqb}
-use lib.ListN.{length, take, replicate, length-append}
-use lib.Seq.{take-append_seam}
-use Rattle.octets.specs.Searches.{every}
-use Rattle.octets.specs.Parts.{part}
-use Rattle.octets.proofs.Parts.{part-is}
-use Rattle.verdict.specs.Refusals.{Row}
-use Rattle.naming.specs.declared.Name.{Name}
-use Rattle.naming.specs.Names.{verdicts, happenings, names, ascii, letters_in, letters, named, name_of}
+use borrow.Author.Tests.{eqb-true, ne_eqb, leb-true}
+use lib.Dec.{eqb, leb}
+use lib.ListN.{length}
+use Rattle.octets.specs.Searches.{every, same}
+use Rattle.verdict.specs.declared.Refusal.{Refusal}
+use Rattle.verdict.specs.declared.Refusal.TheVariants.{State, Room, Cut, Start, Length, End, Sum, Version, Command, Time, Unit as OfUnit, «Type» as OfType, Count, Short, Number, Kind, Text, Setting, Full, Stray, Many, Order, Orphan, Tail, Unlisted, Long, Centre}
+use Rattle.verdict.specs.Refusals.{Row, refusals, number_of, name_of}
+use Rattle.naming.specs.Names.{names, ascii, letters_in, letters}
 
--- a number is one of the table's, and what has its name
-pub named-as : (n k : ℕ) (x : Name) → n ≡ k → x ≡ name_of k → x ≡ name_of n
-named-as n k x e q = q ∙ ap name_of (sym e)
-
-pub verdict-as : (n k : ℕ) (x : Name) → n ≡ k → x ≡ named (letters_in verdicts k) → x ≡ named (letters_in verdicts n)
-verdict-as n k x e q = q ∙ ap (λ (m : ℕ). named (letters_in verdicts m)) (sym e)
-
--- what a match tells behind its arms, one for each row: no row has the number
-abbrev pub NotIn : List Row → Type 0 → ℕ → Type 0
-NotIn [] N n = N
-NotIn (r ∷ rs) N n = NotIn rs (N × (n ≡ r.number → ⊥)) n
-
-none_in : (rs : List Row) (N : Type 0) (n : ℕ) → NotIn rs N n → N × (letters_in rs n ≡ [])
+-- the name of a refusal's number
+pub refusal_named : (r : Refusal) → letters_in refusals (number_of r) ≡ name_of r
 unfolding letters_in
-none_in [] N n h = (h, refl)
-none_in (r ∷ rs) N n h =
-    let k = none_in rs (N × (n ≡ r.number → ⊥)) n h in
-    (k.0.0, simp (ne_eqb r.number n (λ e. k.0.1 (sym e))) k.1)
+refusal_named State = refl
+refusal_named Room = refl
+refusal_named Cut = refl
+refusal_named Start = refl
+refusal_named Length = refl
+refusal_named End = refl
+refusal_named Sum = refl
+refusal_named Version = refl
+refusal_named Command = refl
+refusal_named Time = refl
+refusal_named OfUnit = refl
+refusal_named OfType = refl
+refusal_named Count = refl
+refusal_named Short = refl
+refusal_named Number = refl
+refusal_named Kind = refl
+refusal_named Text = refl
+refusal_named Setting = refl
+refusal_named Full = refl
+refusal_named Stray = refl
+refusal_named Many = refl
+refusal_named Order = refl
+refusal_named Orphan = refl
+refusal_named Tail = refl
+refusal_named Unlisted = refl
+refusal_named Long = refl
+refusal_named Centre = refl
 
-pub no-verdict : (n : ℕ) (x : Name) → NotIn verdicts Unit n → x ≡ named [] → x ≡ named (letters_in verdicts n)
-no-verdict n x h e = e ∙ ap named (sym (none_in verdicts Unit n h).1)
-
--- rows behind others give a name only where these have none
-first-named : (rs qs : List Row) (n : ℕ) → letters_in qs n ≡ [] → letters_in (rs ++ qs) n ≡ letters_in rs n
+-- and of a number that no refusal has
+pub no_refusal : (n : ℕ) → ((r : Refusal) → number_of r ≡ n → ⊥) → letters_in refusals n ≡ []
 unfolding letters_in
-first-named [] qs n e = e
-first-named (r ∷ rs) qs n e = ap (λ (t : List ℕ). cond (eqb r.number n) (ascii r.name) t) (first-named rs qs n e)
-
--- no event and no outcome: what a verdict has
-pub verdict-named : (n : ℕ) (x : Name) → NotIn happenings Unit n → x ≡ named (letters_in verdicts n) → x ≡ name_of n
-unfolding name_of letters
-verdict-named n x h e = e ∙ ap named (sym (first-named verdicts happenings n (none_in happenings Unit n h).1))
-
-abbrev behind : ℕ → List ℕ
-behind n = replicate (9 - length (letters n)) 0
-
--- the letters in front of the zeros
-pub name-part : (n : ℕ) (m : Name) → m ≡ name_of n → part m.bytes 0 m.length ≡ letters n
-unfolding name_of
-name-part n m e =
-    ap (λ (x : Name). part x.bytes 0 x.length) e
-    ∙ part-is (name_of n).bytes 0 (name_of n).length (omega arith) (omega (arith, length-append (letters n) (behind n)))
-    ∙ ap (λ (k : ℕ). take k (letters n ++ behind n)) (sub-zero (length (letters n)))
-    ∙ take-append_seam (letters n) (behind n)
+no_refusal n h =
+    simp (
+      other n h State,
+      other n h Room,
+      other n h Cut,
+      other n h Start,
+      other n h Length,
+      other n h End,
+      other n h Sum,
+      other n h Version,
+      other n h Command,
+      other n h Time,
+      other n h OfUnit,
+      other n h OfType,
+      other n h Count,
+      other n h Short,
+      other n h Number,
+      other n h Kind,
+      other n h Text,
+      other n h Setting,
+      other n h Full,
+      other n h Stray,
+      other n h Many,
+      other n h Order,
+      other n h Orphan,
+      other n h Tail,
+      other n h Unlisted,
+      other n h Long,
+      other n h Centre,
+    )
+  where
+    other : (m : ℕ) → ((r : Refusal) → number_of r ≡ m → ⊥) → (r : Refusal) → eqb (number_of r) m ≡ false
+    other m k r = ne_eqb (number_of r) m (k r)
 
 -- every row's number gives the row's name
 pub each-named : map (λ (r : Row). letters r.number) names ≡ map (λ (r : Row). ascii r.name) names
 unfolding letters letters_in
 each-named = refl
 
-alike : List ℕ → List ℕ → Bool
-alike [] [] = true
-alike [] (y ∷ ys) = false
-alike (x ∷ xs) [] = false
-alike (x ∷ xs) (y ∷ ys) = eqb x y && alike xs ys
+-- a name has at most nine bytes
+pub short_name : (n : ℕ) → length (letters n) ≤ 9
+unfolding letters letters_in every
+short_name n = each_short names refl
+  where
+    each_short : (rs : List Row) → every (λ (r : Row). leb (length (ascii r.name)) 9) rs ≡ true → length (letters_in rs n) ≤ 9
+    each_short [] a = omega arith
+    each_short (r ∷ rs) a = by-test (eqb r.number n) ((and-eq-true_iff (leb (length (ascii r.name)) 9) _).0 a) (each_short rs)
+      where
+        by-test : (b : Bool) → (leb (length (ascii r.name)) 9 ≡ true) × (every (λ (r : Row). leb (length (ascii r.name)) 9) rs ≡ true)
+            → (every (λ (r : Row). leb (length (ascii r.name)) 9) rs ≡ true → length (letters_in rs n) ≤ 9)
+            → length (cond b (ascii r.name) (letters_in rs n)) ≤ 9
+        by-test true a ih = leb-true (length (ascii r.name)) 9 a.0
+        by-test false a ih = ih a.1
 
 -- the number of the first row that has a name
 number_in : List Row → List ℕ → ℕ
 number_in [] t = 0
-number_in (r ∷ rs) t = cond (alike (ascii r.name) t) r.number (number_in rs t)
+number_in (r ∷ rs) t = cond (same (ascii r.name) t) r.number (number_in rs t)
 
 -- where each row's name leads back to its number, so does the name that a number has
 led-back : (f : List ℕ → ℕ) (rs : List Row) (n : ℕ) → every (λ (r : Row). eqb (f (ascii r.name)) r.number) rs ≡ true
@@ -95,7 +124,7 @@ led-back f (r ∷ rs) n a some =
     by-test false e a some ih = ih a.1 some
 
 led : (n : ℕ) → (letters n ≡ [] → ⊥) → number_in names (letters n) ≡ n
-unfolding letters every number_in alike
+unfolding letters every number_in same
 led n some = led-back (number_in names) names n refl some
 
 -- different numbers have different names, where they have one

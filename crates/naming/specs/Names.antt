@@ -1,12 +1,11 @@
 -- The names of document 01's refusals and events, and of the outcomes, under their numbers, as bytes.
 -- Assumes nothing.
-use Rattle.std.specs.Prelude.{ℕ, ◌-◌, cond, List, [], ◌∷◌, ◌++◌, eqb, length, replicate}
+use Rattle.std.specs.Prelude.{ℕ, cond, List, [], ◌∷◌, ◌++◌, eqb}
 use Prim.Native.Char.{code}
 use Prim.Native.String.{String}
 use Rattle.verdict.specs.Refusals.{Row, row, refusals}
 use Rattle.reading.specs.Values.{MORE, NOISE, PACKET}
 use Rattle.place.specs.Steps.{CONFIRMED, ANSWERED, RESENT, FAILED}
-use Rattle.naming.specs.declared.Name.{Name}
 
 -- "the judge's OK or refusal name": 0 is good, and so OK is also said of an outcome of which nothing is told
 abbrev pub verdicts : List Row
@@ -33,10 +32,3 @@ letters_in (r ∷ rs) n = cond (eqb r.number n) (ascii r.name) (letters_in rs n)
 
 unfoldable pub letters : ℕ → List ℕ
 letters n = letters_in names n
-
--- nine bytes, zero behind the text
-abbrev pub named : List ℕ → Name
-named t = record { bytes = t ++ replicate (9 - length t) 0; length = length t }
-
-unfoldable pub name_of : ℕ → Name
-name_of n = named (letters n)
