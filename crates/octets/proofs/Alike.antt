@@ -37,3 +37,5 @@ by-numbers a b m n long wide x y = both-or-none (eqb m n) (same a b) as-numbers 
 
     as_bytes : same a b ≡ true → eqb m n ≡ true
     as_bytes e = eq-eqb m n (x.0 ∙ ap low_first (same-is a b e) ∙ sym y.0)
+
+pub ruleset alike = (by-numbers)

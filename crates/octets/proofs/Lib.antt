@@ -8,5 +8,4 @@ pub mod Rows
 pub mod Fill
 pub mod Alike
 pub mod Flags
-pub mod Asked
 pub mod Examples

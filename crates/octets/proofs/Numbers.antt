@@ -1,14 +1,16 @@
 -- The laws of numbers as bytes: how a number is read byte by byte, and the round trips. By induction on the bytes.
 -- Assumes nothing.
-use Prim.Native.Nat.{ℕ, zero, suc, ◌+◌, ◌*◌, ◌-◌, ◌/◌, ◌%◌, ◌^◌, ◌≤◌, ◌<◌}
+use Prim.Native.Nat.{ℕ, zero, suc, ◌+◌, ◌*◌, ◌/◌, ◌%◌, ◌^◌, ◌≤◌, ◌<◌}
 use native.Mathlib.Nat.{pow-suc}
 use native.Mathlib.Numerals.{add-one, add-two}
 use native.Mathlib.Omega.{arith}
 use mathlib.Core.Path.{◌≡◌, refl, sym, ap, subst, ◌∙◌}
 use mathlib.Core.List.{List, [], ◌∷◌}
-use lib.ListN.{length, get_or, take, drop, drop_of_length-le}
-use lib.Seq.{take-nil, take_all, drop-cons, get_or-drop}
+use lib.ListN.{length, get_or, take, drop}
+use lib.Seq.{take-nil, drop-cons, get_or-drop}
+use Rattle.std.specs.Int.{w16, w32, from_le_bytes}
 use Rattle.octets.specs.Numbers.{Octets, low_first, bytes_of}
+use Rattle.octets.specs.Parts.{one_by_one}
 
 -- a number of one byte more: the byte at its place and 256 times what follows
 pub low_step : (s : List ℕ) (at n : ℕ) → low_first (take (suc n) (drop at s)) ≡ get_or s at 0 + 256 * low_first (take n (drop (suc at) s))
@@ -17,11 +19,6 @@ low_step [] zero n = simp (take-nil {A = ℕ})
 low_step [] (suc at) n = simp (take-nil {A = ℕ})
 low_step (b ∷ s) zero n = refl
 low_step (b ∷ s) (suc at) n = low_step s at n
-
--- behind the end every byte reads 0
-pub low-behind : (s : List ℕ) (at n : ℕ) → length s ≤ at → 0 ≡ low_first (take n (drop at s))
-unfolding low_first
-low-behind s at n h = simp (drop_of_length-le s h, take-nil {A = ℕ})
 
 pub low-two : (s : List ℕ) (at : ℕ) → low_first (take 2 (drop at s)) ≡ get_or s at 0 + 256 * get_or s (at + 1) 0
 unfolding low_first
@@ -34,48 +31,20 @@ low-four s at =
     (omega
     (arith, low_step s at 3, low_step s (suc at) 2, low_step s at 1, low_step s (suc at) 0))
 
--- read byte by byte, or two and two
-pub of_two : (s : List ℕ) (at a b r : ℕ) → a ≡ get_or s at 0 → b ≡ get_or s (at + 1) 0 → r ≡ a + 256 * b → r ≡ low_first (take 2 (drop at s))
-of_two s at a b r e f j = j ∙ (λ i. e i + 256 * f i) ∙ sym (low-two s at)
-
-pub of_four : (s : List ℕ) (at a b r : ℕ) → a ≡ low_first (take 2 (drop at s)) → b ≡ low_first (take 2 (drop (at + 2) s)) → r ≡ a + 65536 * b
-    → r ≡ low_first (take 4 (drop at s))
-of_four s at a b r e f j = j ∙ (λ i. e i + 65536 * f i) ∙ sym (low-four s at)
-
--- the number of six bytes, by two, two and two
-pub of-six : (s : List ℕ) (a b l c : ℕ) → length s ≡ 6 → a ≡ get_or s 0 0 + 256 * get_or s 1 0 → b ≡ get_or s 2 0 + 256 * get_or s 3 0 → l ≡ a + 65536 * b
-    → c ≡ get_or s 4 0 + 256 * get_or s 5 0 → l + 4294967296 * c ≡ low_first s
+-- the same of the bytes read one by one
+pub low_read : (s : List ℕ) (at n : ℕ) → low_first (take n (drop at s)) ≡ low_first (one_by_one s at n)
 unfolding low_first
-of-six s a b l c long e f g h =
-    let all : low_first (take 6 (drop 0 s)) ≡ low_first s = ap low_first (take_all 6 s (omega arith)) in
-    omega (arith, all, low_step s 0 5, low_step s 1 4, low_step s 2 3, low_step s 3 2, low_step s 4 1, low_step s 5 0)
+low_read s at zero = refl
+low_read s at (suc n) = low_step s at n ∙ ap (λ (r : ℕ). get_or s at 0 + 256 * r) (low_read s (suc at) n)
 
-take_twice : (n : ℕ) (s : List ℕ) → take n (take n s) ≡ take n s
-take_twice zero s = refl
-take_twice (suc n) [] = refl
-take_twice (suc n) (b ∷ s) = ap (λ (t : List ℕ). b ∷ t) (take_twice n s)
+-- and as std reads two of them, or four, low byte first
+pub two_read : (s : List ℕ) (at : ℕ) (b : List ℕ) → b ≡ one_by_one s at 2 → from_le_bytes w16 b ≡ low_first (take 2 (drop at s))
+unfolding low_first
+two_read s at b e = ap (from_le_bytes w16) e ∙ omega arith ∙ sym (low_read s at 2)
 
--- the same of the four bytes alone
-pub four-alone : (s : List ℕ) (at a b r : ℕ) → a ≡ low_first (take 2 (drop 0 (take (at + 4 - at) (drop at s))))
-    → b ≡ low_first (take 2 (drop 2 (take (at + 4 - at) (drop at s)))) → r ≡ a + 65536 * b → r ≡ low_first (take 4 (drop at s))
-four-alone s at a b r e f j =
-    let four : at + 4 - at ≡ 4 = omega arith in
-    of_four (take (at + 4 - at) (drop at s)) 0 a b r e f j
-    ∙ ap (λ (k : ℕ). low_first (take 4 (take k (drop at s)))) four
-    ∙ ap low_first (take_twice 4 (drop at s))
-
-pub ruleset numbers = (low-behind, of_two, of_four, four-alone)
-
-pub length-bytes : (n x : ℕ) → length (bytes_of n x) ≡ n
-unfolding bytes_of
-length-bytes zero x = refl
-length-bytes (suc n) x = ap suc (length-bytes n _)
-
-pub octets-bytes : (n x : ℕ) → Octets (bytes_of n x)
-unfolding bytes_of
-octets-bytes zero x i = omega arith
-octets-bytes (suc n) x zero = omega arith
-octets-bytes (suc n) x (suc i) = octets-bytes n _ i
+pub four_read : (s : List ℕ) (at : ℕ) (b : List ℕ) → b ≡ one_by_one s at 4 → from_le_bytes w32 b ≡ low_first (take 4 (drop at s))
+unfolding low_first
+four_read s at b e = ap (from_le_bytes w32) e ∙ omega arith ∙ sym (low_read s at 4)
 
 octets-take : (n : ℕ) (s : List ℕ) → Octets s → Octets (take n s)
 octets-take zero s h i = omega arith

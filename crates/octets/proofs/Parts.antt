@@ -5,13 +5,14 @@ use native.Mathlib.Omega.{arith}
 use mathlib.Core.Bool.{Bool, true, false}
 use mathlib.Core.Path.{◌≡◌, refl, sym, ap, ◌∙◌}
 use mathlib.Core.List.{List, [], ◌∷◌, ◌++◌, append_assoc, append-nil}
-use borrow.Author.Tests.{le-leb, lt-leb, leb-true, leb-false}
-use lib.Dec.{leb}
+use borrow.Author.Tests.{le-leb, lt-leb, leb-true, leb-false, ltb-true, ltb-false}
+use lib.Dec.{leb, ltb}
 use lib.ListN.{length, get_or, set, take, drop, replicate, get_or-eq_default, length-append, length-take, length-drop, take-append-drop, drop_of_length-le}
 use native.Mathlib.Nat.{le_of_eq}
-use native.Mathlib.Numerals.{add-one, add-two, add-three, add-four, add_five}
+use native.Mathlib.Numerals.{add-one}
 use lib.Seq.{sets, sets-eq, paste, paste-suc, drop-drop, take_all, take-length, take_at, drop_at, take-append_seam, drop-cons, get_or-take, get_or-drop, length-take-le}
-use Rattle.octets.specs.Parts.{within, part, part_place, put_at, one_by_one}
+use Rattle.octets.specs.Parts.{part, put_at, one_by_one}
+use Rattle.octets.proofs.Rows.{no-elements}
 
 -- a part that is there
 module _ (s : List ℕ) (from to : ℕ) (up : from ≤ to) (fits : to ≤ length s) where
@@ -24,26 +25,6 @@ module _ (s : List ℕ) (from to : ℕ) (up : from ≤ to) (fits : to ≤ length
 
   pub part_at : (k : ℕ) → k < to - from → get_or (part s from to) k 0 ≡ get_or s (from + k) 0
   part_at k h = simp part-is (get_or-take (to - from) (drop from s) k 0 h ∙ get_or-drop from s k 0)
-
-  pub place_is : (p : ℕ × ℕ) → part_place p s from to ≡ (p.0, from + p.1)
-  unfolding part_place
-  place_is p = simp (le-leb from to up, le-leb to (length s) fits)
-
--- one that is not there is empty, at the front
-module _ (s : List ℕ) (from to : ℕ) where
-  pub no_part : within s from to ≡ false → (p : ℕ × ℕ) → ([] ≡ part s from to) × ((p.0, 0 + p.1) ≡ part_place p s from to)
-  unfolding part part_place
-  no_part e p = (simp e, simp e)
-
-  module _ (p : ℕ × ℕ) where
-    pub past_end : length s < to → ([] ≡ part s from to) × ((p.0, 0 + p.1) ≡ part_place p s from to)
-    past_end h = no_part (simp (lt-leb to (length s) h)) p
-
-    pub reversed : to ≤ length s → to < from → ([] ≡ part s from to) × ((p.0, 0 + p.1) ≡ part_place p s from to)
-    reversed fits h = no_part (simp (le-leb to (length s) fits, lt-leb from to h)) p
-
-    pub lent : to ≤ length s → from ≤ to → (take (to - from) (drop from s) ≡ part s from to) × ((p.0, from + p.1) ≡ part_place p s from to)
-    lent fits up = (sym (part-is s from to up fits), sym (place_is s from to up fits p))
 
 -- bytes that fit
 module _ (o : List ℕ) (at : ℕ) (bytes : List ℕ) (fits : at + length bytes ≤ length o) where
@@ -95,16 +76,34 @@ one_by_one_lem s i (suc n) h =
     (ap (λ (t : List ℕ). get_or s i 0 ∷ t) (one_by_one_lem s (suc i) n (omega arith)))
 
 -- behind the end each of them is 0
-pub one-behind : (s : List ℕ) (i n : ℕ) → length s ≤ i → replicate n 0 ≡ one_by_one s i n
+one-behind : (s : List ℕ) (i n : ℕ) → length s ≤ i → replicate n 0 ≡ one_by_one s i n
 one-behind s i zero h = refl
 one-behind s i (suc n) h = λ k. sym (get_or-eq_default s 0 h) k ∷ one-behind s (suc i) n (omega arith) k
 
-pub six-read : (s : List ℕ) (at a b c d e f : ℕ) → a ≡ get_or s at 0 → b ≡ get_or s (at + 1) 0 → c ≡ get_or s (at + 2) 0 → d ≡ get_or s (at + 3) 0
-    → e ≡ get_or s (at + 4) 0 → f ≡ get_or s (at + 5) 0 → a ∷ b ∷ c ∷ d ∷ e ∷ f ∷ [] ≡ one_by_one s at 6
-six-read s at a b c d e f p q r t u v =
-    (λ i. p i ∷ q i ∷ r i ∷ t i ∷ u i ∷ v i ∷ []) ∙ simp (add-one, add-two, add-three, add-four, add_five)
+-- n bytes read at once where all are there, and the last of a row with zeros behind them
+pub all_there : (s : List ℕ) (at n : ℕ) (rest : List ℕ) → rest ≡ drop at s → n ≤ length rest → take n rest ≡ one_by_one s at n
+all_there s at zero rest e h = refl
+all_there s at (suc n) rest e h = ap (take (suc n)) e ∙ sym (one_by_one_lem s at (suc n) (omega (arith, ap length e, length-drop at s)))
 
-pub ruleset bytewise = (one-behind, six-read)
+padded : (s : List ℕ) (at n : ℕ) → length (drop at s) ≤ n → drop at s ++ drop (length (drop at s)) (replicate n 0) ≡ one_by_one s at n
+padded s at zero h = simp (no-elements (drop at s) (omega arith))
+padded s at (suc n) h = by-place (ltb at (length s)) refl (padded s (suc at) n)
+  where
+    by-place : (t : Bool) → ltb at (length s) ≡ t
+        → (length (drop (suc at) s) ≤ n → drop (suc at) s ++ drop (length (drop (suc at) s)) (replicate n 0) ≡ one_by_one s (suc at) n)
+        → drop at s ++ drop (length (drop at s)) (replicate (suc n) 0) ≡ one_by_one s at (suc n)
+    by-place true e ih =
+        let here : at < length s = ltb-true at (length s) e in
+        rw (drop-cons s at 0 here)
+        (ap (λ (t : List ℕ). get_or s at 0 ∷ t) (ih (omega (arith, length-drop at s, length-drop (suc at) s))))
+    by-place false e ih =
+        let past : length s ≤ at = ltb-false at (length s) e in
+        rw (drop_of_length-le s past) (one-behind s at (suc n) past)
+
+pub some_there : (s : List ℕ) (at n : ℕ) (rest : List ℕ) → rest ≡ drop at s → length rest < n → rest ++ drop (length rest) (replicate n 0) ≡ one_by_one s at n
+some_there s at n rest e h =
+    let few : length (drop at s) ≤ n = omega (arith, ap length e) in
+    ap (λ (r : List ℕ). r ++ drop (length r) (replicate n 0)) e ∙ padded s at n few
 
 -- what `&s[at..]` lends is all from that place on
 pub rest-is : (s : List ℕ) (at : ℕ) → take (length s - at) (drop at s) ≡ drop at s

@@ -1,16 +1,17 @@
--- The laws of the sum: two rows one after the other, the bound of what is added, and the loop that adds. Assumes nothing.
-use Prim.Native.Nat.{ℕ, zero, suc, ◌+◌, ◌*◌, ◌^◌, ◌≤◌, ◌<◌}
-use native.Mathlib.Numerals.{add-one}
+-- The laws of the sum: two rows one after the other, the bound of what is added, and that it is std's sum. Assumes nothing.
+use Prim.Native.Nat.{ℕ, zero, suc, ◌+◌, ◌*◌, ◌^◌, ◌≤◌, min}
 use native.Mathlib.Omega.{arith}
-use borrow.Author.Rules.{rules}
-use mathlib.Core.Path.{◌≡◌, sym, ap, ◌∙◌}
+use mathlib.Core.Path.{◌≡◌, refl, ap, ◌∙◌}
 use mathlib.Core.List.{List, [], ◌∷◌, ◌++◌}
 use lib.Dec.{T, ltb}
-use lib.ListN.{length, get_or, take}
-use lib.Seq.{take-suc, take_all}
+use lib.ListN.{length, take}
+use lib.Seq.{take_all}
 use mir.Syntax.{Width}
 use mir.Val.{Fits, bits}
 use mir.Facts.{Fits-below}
+use Rattle.std.proofs.Common.{sum}
+use Rattle.std.proofs.lemmas.List.{take_min}
+use Rattle.std.proofs.lemmas.List.Recursion.{is_sum_by}
 use Rattle.octets.specs.Numbers.{Octets}
 use Rattle.octets.specs.Sums.{total}
 
@@ -30,11 +31,11 @@ most (suc n) (b ∷ s) bytes = omega (arith, bytes 0, most n s (λ i. bytes (suc
 pub in_all : (n : ℕ) (s : List ℕ) → Octets s → n ≤ 1049 → total (take n s) ≤ 267495
 in_all n s bytes h = omega (arith, most n s bytes)
 
--- a row of at most so many bytes is its own beginning
-pub short : (s : List ℕ) (n r : ℕ) → length s ≤ n → r ≡ total s → r ≡ total (take n s)
-short s n r h e = e ∙ ap total (sym (take_all n s h))
+-- at most 1,049 of them
+pub of_few : (s : List ℕ) (r : ℕ) → Octets s → length s ≤ 1049 → r ≡ total s → r ≤ 267495
+of_few s r bytes few e = omega (arith, e, in_all 1049 s bytes (omega arith), ap total (take_all 1049 s few))
 
--- the loop that adds, byte by byte: what is added are the bytes before its place, within the bound
+-- what is added of the bytes before a place, within the bound
 pub record Added (s : List ℕ) (sum i : ℕ) : Type 0 where
   pub there : i ≤ length s
   pub same : sum ≡ total (take i s)
@@ -44,26 +45,15 @@ pub record Added (s : List ℕ) (sum i : ℕ) : Type 0 where
 pub wide_enough : {w : Width} {s : List ℕ} {sum i : ℕ} → Added s sum i → T (ltb 267495 (2 ^ bits w)) → Fits w sum
 wide_enough a wide = Fits-below wide a.bound
 
-module _ (s : List ℕ) where
-  pub none-added : Added s 0 0
-  unfolding total
-  none-added = record { there = omega arith; same = omega arith; bound = omega arith }
+-- on the way is every place of so few bytes
+pub on-the-way : (s : List ℕ) (i : ℕ) → Octets s → length s ≤ 1049 → i ≤ length s → Added s (total (take i s)) i
+on-the-way s i bytes few h = record { there = h; same = refl; bound = in_all i s bytes (omega arith) }
 
-  module _ (sum i : ℕ) (a : Added s sum i) where
-    module _ (bytes : Octets s) (few : length s ≤ 1049) (h : i < length s) where
-      with-next : sum + get_or s i 0 ≡ total (take (i + 1) s)
-      unfolding total
-      with-next = omega (arith, a.same, total-append (take i s) (get_or s i 0 ∷ []), ap total (take-suc s i 0 h), ap (λ (n : ℕ). total (take n s)) (add-one i))
+-- a row cut at so many bytes, where it has more
+pub take_least : (s : List ℕ) (n : ℕ) → take (min (length s) n) s ≡ take n s
+take_least s n = let e : min (length s) n ≡ min n (length s) = omega arith in ap (λ (m : ℕ). take m s) e ∙ take_min n s
 
-      pub one-added : Added s (sum + get_or s i 0) (i + 1)
-      one-added =
-          record {
-            there = omega arith;
-            same = with-next;
-            bound = omega (arith, with-next, in_all (i + 1) s bytes (omega arith));
-          }
-
-    pub all-added : length s ≤ i → sum ≡ total s
-    all-added h = a.same ∙ ap total (take_all i s h)
-
-pub ruleset adding = (rules, none-added, all-added)
+-- the definition's sum is std's
+pub total_is_sum : (s : List ℕ) → total s ≡ sum s
+unfolding total
+total_is_sum s = is_sum_by total (λ x. x) refl (λ _ _. refl) s
