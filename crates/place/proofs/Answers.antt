@@ -3,15 +3,20 @@ use Prim.Native.Nat.{ℕ, ◌+◌, ◌≤◌, ◌<◌}
 use native.Mathlib.Omega.{arith}
 use mathlib.Core.Bool.{Bool, false, not, ◌&&◌, and-eq-true_iff}
 use mathlib.Core.Path.{◌≡◌, sym, ap, ◌∙◌}
-use borrow.Author.Tests.{lt-ltb, le-ltb, eqb-true, eq-eqb}
+use borrow.Author.Tests.{lt-ltb, le-ltb, eqb-true, eq-eqb, ne_eqb}
 use lib.Dec.{eqb}
 use Rattle.octets.proofs.Flags.{on, both-or-none}
 use Rattle.place.specs.declared.Place.{Place}
-use Rattle.place.specs.declared.Reply.{Reply}
-use Rattle.place.specs.declared.Reply.TheVariants.{Confirm, Answer, Deny, BadAnswer}
-use Rattle.place.specs.declared.Step.{Step}
-use Rattle.place.specs.Rules.{free, is_open, is_zero, weight}
-use Rattle.place.specs.Steps.{NOTHING, CONFIRMED, ANSWERED, RESENT, FAILED, becomes, once_more, one_older, denied, ticked, replied}
+use Rattle.place.specs.declared.Mode.{Mode}
+use Rattle.place.specs.declared.Mode.TheVariants.{Send, Request}
+use Rattle.place.specs.Modes.{number_of}
+use Rattle.place.specs.Rules.{SEND, REQUEST, free, is_open, is_zero, weight}
+use Rattle.place.specs.Steps.{NOTHING, RESENT, FAILED, Step, becomes, once_more, one_older, denied, ticked}
+
+-- a number that no mode has opens no place
+pub unknown_closed : (m : ℕ) → ((mode : Mode) → number_of mode ≡ m → ⊥) → false ≡ is_open m
+unfolding is_open
+unknown_closed m none = simp (ne_eqb m SEND (λ e. none Send (sym e)), ne_eqb m REQUEST (λ e. none Request (sym e)))
 
 module _ (p : Place) where
   -- all zero, of the numbers as one
@@ -53,23 +58,3 @@ module _ (p : Place) where
     pub has-failed : (f : Place) → f ≡ free → r ≤ p.resends → becomes f FAILED ≡ denied r p
     unfolding denied
     has-failed f e h = ap (λ (q : Place). becomes q FAILED) e ∙ simp (le-ltb _ _ h)
-
-    -- by the reply
-    module _ (w : Reply) where
-      pub by-confirm : (f : Place) → w ≡ Confirm → f ≡ free → becomes f CONFIRMED ≡ replied r w p
-      unfolding replied
-      by-confirm f e q = ap (λ (x : Place). becomes x CONFIRMED) q ∙ ap (λ (x : Reply). replied r x p) (sym e)
-
-      pub by_answer : (f : Place) → w ≡ Answer → f ≡ free → becomes f ANSWERED ≡ replied r w p
-      unfolding replied
-      by_answer f e q = ap (λ (x : Place). becomes x ANSWERED) q ∙ ap (λ (x : Reply). replied r x p) (sym e)
-
-      pub by-deny : (s : Step) → w ≡ Deny → s ≡ denied r p → s ≡ replied r w p
-      unfolding replied
-      by-deny s e q = q ∙ ap (λ (x : Reply). replied r x p) (sym e)
-
-      pub by-bad-answer : (s : Step) → w ≡ BadAnswer → s ≡ denied r p → s ≡ replied r w p
-      unfolding replied
-      by-bad-answer s e q = q ∙ ap (λ (x : Reply). replied r x p) (sym e)
-
-pub ruleset stepping = (sent-again, has-failed, by-confirm, by_answer, by-deny, by-bad-answer)

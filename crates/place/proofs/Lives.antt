@@ -11,7 +11,7 @@ use Rattle.octets.proofs.Flags.{by-test}
 use Rattle.place.specs.declared.Place.{Place}
 use Rattle.place.specs.declared.Reply.{Reply}
 use Rattle.place.specs.declared.Reply.TheVariants.{Confirm, Answer, Deny, BadAnswer}
-use Rattle.place.specs.declared.Step.{Step}
+use Rattle.place.specs.Steps.{Step}
 use Rattle.place.specs.Rules.{free, opened, is_open, keeps}
 use Rattle.place.specs.Steps.{NOTHING, CONFIRMED, ANSWERED, RESENT, FAILED, is_end, goes_on, once_more, one_older, becomes, denied, ticked, fits, replied}
 use Rattle.place.proofs.Kept.{open_kept, holds-is, fits-holds}

@@ -1,2 +1,4 @@
+pub mod Modes
+pub mod Outcomes
 pub mod Rules
 pub mod Steps

@@ -4,7 +4,6 @@ use Rattle.std.specs.Prelude.{ℕ, ◌+◌, Bool, ◌&&◌, ◌||◌, cond, List
 use Rattle.place.specs.declared.Place.{Place}
 use Rattle.place.specs.declared.Reply.{Reply}
 use Rattle.place.specs.declared.Reply.TheVariants.{Confirm, Answer, Deny, BadAnswer}
-use Rattle.place.specs.declared.Step.{Step}
 use Rattle.place.specs.Rules.{SEND, REQUEST, free, is_open}
 
 -- the outcomes' numbers, our own: none is a refusal of documents 01 and 02, which end at 31
@@ -32,6 +31,11 @@ is_end o = eqb o CONFIRMED || eqb o ANSWERED || eqb o FAILED
 
 unfoldable pub goes_on : ℕ → Bool
 goes_on o = eqb o NOTHING || eqb o RESENT
+
+-- what a place becomes, and the outcome's number
+pub record Step : Type 0 where
+  pub place : Place
+  pub outcome : ℕ
 
 -- a place with other counts
 abbrev pub counted : ℕ → ℕ → Place → Place
