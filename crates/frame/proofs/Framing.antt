@@ -19,7 +19,7 @@ pub at_length : (M : ℕ) (p : List ℕ) (l : ℕ) (v : Verdict) → l ≡ unit_
 at_length M p l v e h = h ∙ ap (λ (k : ℕ). in_order (frame_tests_at M p k) good) e
 
 -- what `sum` adds up of bytes 3 to 27+L
-sum_is : (p : List ℕ) (l : ℕ) → l ≤ 1024 → total (take 1049 (take (27 + l - 2) (drop 2 p))) % 256 ≡ sum_of l p
+pub sum_is : (p : List ℕ) (l : ℕ) → l ≤ 1024 → total (take 1049 (take (27 + l - 2) (drop 2 p))) % 256 ≡ sum_of l p
 sum_is p l m =
     let few : 27 + l - 2 ≡ 25 + l = omega arith in
     ap (λ (n : ℕ). total (take 1049 (take n (drop 2 p))) % 256) few
