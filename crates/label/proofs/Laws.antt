@@ -1,13 +1,11 @@
 -- The laws of a label: its two round trips, and that it is its six bytes. Assumes nothing.
-use Prim.Native.Nat.{ℕ, ◌+◌, ◌≤◌, ◌<◌}
-use native.Mathlib.Numerals.{add-one, add-two, add-three, add-four, add_five}
+use Prim.Native.Nat.{ℕ, ◌≤◌, ◌<◌}
 use native.Mathlib.Omega.{arith}
-use mathlib.Core.Path.{◌≡◌, refl, sym, ap, ◌∙◌}
+use mathlib.Core.Path.{◌≡◌, refl, ◌∙◌}
 use mathlib.Core.List.{List, ◌++◌}
 use lib.Dec.{lit<}
 use lib.ListN.{length, get_or, take, drop}
-use lib.Seq.{take_all, get_or-take, get_or-drop}
-use Rattle.octets.specs.Parts.{one_by_one}
+use lib.Seq.{take_all, get_or-take}
 use Rattle.octets.proofs.Parts.{one_by_one_lem}
 use Rattle.label.specs.declared.Label.{Label}
 use Rattle.label.specs.Times.{label_of, label_bytes}
@@ -16,15 +14,6 @@ use Rattle.label.specs.Times.{label_of, label_bytes}
 pub same : (s : List ℕ) (l : Label) → l.second ≡ get_or s 0 0 → l.minute ≡ get_or s 1 0 → l.hour ≡ get_or s 2 0 → l.day ≡ get_or s 3 0
     → l.month ≡ get_or s 4 0 → l.year ≡ get_or s 5 0 → l ≡ label_of s
 same s l a b c d e f = λ i. record { second = a i; minute = b i; hour = c i; day = d i; month = e i; year = f i }
-
--- six bytes read from a place on stand for the label there
-pub label-six : (s : List ℕ) (at : ℕ) → label_of (one_by_one s at 6) ≡ label_of (drop at s)
-label-six s at =
-    same (drop at s) (label_of (one_by_one s at 6)) (each 0 at (omega arith)) (each 1 _ (add-one at)) (each 2 _ (add-two at)) (each 3 _ (add-three at))
-    (each 4 _ (add-four at)) (each 5 _ (add_five at))
-  where
-    each : (k i : ℕ) → at + k ≡ i → get_or s i 0 ≡ get_or (drop at s) k 0
-    each k i e = sym (get_or-drop at s k 0 ∙ ap (λ (n : ℕ). get_or s n 0) e)
 
 -- written and read back: the same label
 pub bytes-label : (l : Label) (rest : List ℕ) → label_of (label_bytes l ++ rest) ≡ l

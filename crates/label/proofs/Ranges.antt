@@ -1,57 +1,17 @@
--- The laws by which `search` walks a label's ranges: past a byte in its range, to the first that is out, or through; and of six zeros.
--- Assumes nothing.
+-- The laws of a label's ranges: six zeros, which are out of range, and a day of 0. Assumes nothing.
 use Prim.Native.Nat.{ℕ}
 use native.Mathlib.Omega.{arith}
-use mathlib.Core.Bool.{Bool, true, false, not, ◌&&◌, and-eq-true_iff}
+use mathlib.Core.Bool.{Bool, true, false, ◌&&◌, and-eq-true_iff}
 use mathlib.Core.List.{List, [], ◌∷◌}
-use mathlib.Core.Path.{◌≡◌, refl, sym, ap, ◌∙◌}
+use mathlib.Core.Path.{◌≡◌, refl, ap, ◌∙◌}
 use borrow.Author.Tests.{eqb-true, leb-true, le-leb, eq-eqb}
 use lib.Dec.{eqb, leb}
-use lib.ListN.{length, get_or, take, drop, replicate}
-use Rattle.octets.specs.Numbers.{low_first}
+use lib.ListN.{length, replicate}
 use Rattle.octets.specs.Searches.{same}
-use Rattle.octets.proofs.Flags.{on, off, both-or-none}
+use Rattle.octets.proofs.Flags.{both-or-none}
 use Rattle.octets.proofs.Alike.{same-is}
-use Rattle.octets.proofs.Numbers.{low-two, low-four}
 use Rattle.label.specs.declared.Label.{Label}
-use Rattle.label.specs.Times.{label_of, label_bytes, ranges, in_ranges, zeros, is_no_time}
-
-module _ (low high b : ℕ) (rs : List (ℕ × ℕ)) (bytes : List ℕ) (r : Bool) where
-  pub out_of_range : r ≡ (leb low b && leb b high) → not r ≡ true → false ≡ in_ranges ((low, high) ∷ rs) (b ∷ bytes)
-  unfolding in_ranges
-  out_of_range e t = simp (off e t)
-
-  pub in_range_lem : (v : Bool) → r ≡ (leb low b && leb b high) → not r ≡ false → v ≡ in_ranges rs bytes → v ≡ in_ranges ((low, high) ∷ rs) (b ∷ bytes)
-  unfolding in_ranges
-  in_range_lem v e t h = h ∙ simp (on e t)
-
--- whatever the byte before it is, one that is out decides
-pub passed_over : (r : ℕ × ℕ) (b : ℕ) (rs : List (ℕ × ℕ)) (bytes : List ℕ) → false ≡ in_ranges rs bytes → false ≡ in_ranges (r ∷ rs) (b ∷ bytes)
-unfolding in_ranges
-passed_over r b rs bytes h = by-test (leb r.0 b) (leb b r.1)
-  where
-    by-test : (x y : Bool) → false ≡ (x && y && in_ranges rs bytes)
-    by-test true true = h
-    by-test true false = refl
-    by-test false y = refl
-
--- the last test but one in the row, where the last byte is in its range
-pub last-tested : (low high b l h c : ℕ) (v r : Bool) → v ≡ (leb low b && leb b high) → r ≡ (leb l c && leb c h) → not r ≡ false
-    → v ≡ in_ranges ((low, high) ∷ (l, h) ∷ []) (b ∷ c ∷ [])
-unfolding in_ranges
-last-tested low high b l h c v r e q n = e ∙ by-test (leb low b) (leb b high) ∙ ap (λ (x : Bool). leb low b && leb b high && x) (sym (simp (on q n)))
-  where
-    by-test : (x y : Bool) → (x && y) ≡ (x && y && true)
-    by-test true true = refl
-    by-test true false = refl
-    by-test false y = refl
-
--- the year is tested before the day and the month
-pub year-out : (s m h d o y : ℕ) (r : Bool) → r ≡ (leb 0 y && leb y 99) → not r ≡ true → false ≡ in_ranges ranges (s ∷ m ∷ h ∷ d ∷ o ∷ y ∷ [])
-year-out s m h d o y r e t =
-    passed_over (0, 59) s _ _ (passed_over (0, 59) m _ _ (passed_over (0, 23) h _ _ (passed_over (1, 31) d _ _ (passed_over (1, 12) o _ _ (out_of_range 0 99 y [] [] r e t)))))
-
-pub ruleset ranging = (out_of_range, in_range_lem, last-tested)
+use Rattle.label.specs.Times.{label_bytes, ranges, in_ranges, is_no_time}
 
 -- bytes that are all 0 are those in the range of 0 alone
 pub all_zero_lem : (bytes : List ℕ) → same bytes (replicate (length bytes) 0) ≡ in_ranges (replicate (length bytes) (0, 0)) bytes
@@ -82,44 +42,13 @@ no-time-out l e = ap (in_ranges ranges) (no-time-zeros l e) ∙ zeros-out
 
 -- a label with a day of 0 is none that is in range
 pub no-day-out : (l : Label) → l.day ≡ 0 → in_ranges ranges (label_bytes l) ≡ false
-no-day-out l e =
-    sym
-    (passed_over (0, 59) l.second _ _
-    (passed_over (0, 59) l.minute _ _
-    (passed_over (0, 23) l.hour _ _ (out_of_range 1 31 l.day _ _ false (sym (ap (λ (d : ℕ). leb 1 d && leb d 31) e)) refl))))
-
-zeros-zero : in_ranges zeros (replicate 6 0) ≡ true
 unfolding in_ranges
-zeros-zero = refl
-
--- six bytes as two numbers, low byte first: zero where each of them is
-pub by-two-numbers : (s : List ℕ) (low high : ℕ) (z : Bool) → low ≡ low_first (take 4 (drop 0 s)) → high ≡ low_first (take 2 (drop 4 s)) → z ≡ (eqb low 0 && eqb high 0)
-    → z ≡ is_no_time (label_of s)
-by-two-numbers s low high z a b told = told ∙ both-or-none (eqb low 0 && eqb high 0) (is_no_time (label_of s)) zero-bytes zero-numbers
+no-day-out l e =
+    ap (λ (d : ℕ). in_ranges ranges (l.second ∷ l.minute ∷ l.hour ∷ d ∷ l.month ∷ l.year ∷ [])) e
+    ∙ by-test (leb 0 l.second && leb l.second 59) (leb 0 l.minute && leb l.minute 59) (leb 0 l.hour && leb l.hour 23)
   where
-    zero-bytes : (eqb low 0 && eqb high 0) ≡ true → is_no_time (label_of s) ≡ true
-    zero-bytes e =
-        let both = (and-eq-true_iff (eqb low 0) (eqb high 0)).0 e in
-        let left = eqb-true low 0 both.0 in
-        let right = eqb-true high 0 both.1 in
-        let is : (k : ℕ) → Type 0 = λ k. get_or s k 0 ≡ 0 in
-        let second : is 0 = omega (arith, a, left, low-four s 0, low-two s 0, low-two s 2) in
-        let minute : is 1 = omega (arith, a, left, low-four s 0, low-two s 0, low-two s 2) in
-        let hour : is 2 = omega (arith, a, left, low-four s 0, low-two s 0, low-two s 2) in
-        let day : is 3 = omega (arith, a, left, low-four s 0, low-two s 0, low-two s 2) in
-        let month : is 4 = omega (arith, b, right, low-two s 4) in
-        let year : is 5 = omega (arith, b, right, low-two s 4) in
-        (λ i. in_ranges zeros (second i ∷ minute i ∷ hour i ∷ day i ∷ month i ∷ year i ∷ [])) ∙ zeros-zero
-
-    zero-numbers : is_no_time (label_of s) ≡ true → (eqb low 0 && eqb high 0) ≡ true
-    zero-numbers e =
-        let all = no-time-zeros (label_of s) e in
-        let byte : (k : ℕ) → get_or (label_bytes (label_of s)) k 0 ≡ get_or (replicate 6 0) k 0 = λ k. ap (λ (x : List ℕ). get_or x k 0) all in
-        simp (
-          eq-eqb low 0 (omega (arith, a, low-four s 0, low-two s 0, low-two s 2, byte 0, byte 1, byte 2, byte 3)),
-          eq-eqb high 0 (omega (arith, b, low-two s 4, byte 4, byte 5)),
-        )
-
-pub zero-by-value : (l : Label) (s : List ℕ) (low high : ℕ) (z : Bool) → s ≡ label_bytes l → low ≡ low_first (take 4 (drop 0 s)) → high ≡ low_first (take 2 (drop 4 s))
-    → z ≡ (eqb low 0 && eqb high 0) → z ≡ is_no_time l
-zero-by-value l s low high z is a b told = by-two-numbers s low high z a b told ∙ ap (λ (x : List ℕ). is_no_time (label_of x)) is
+    by-test : (a b c : Bool) → a && (b && (c && false)) ≡ false
+    by-test true true true = refl
+    by-test true true false = refl
+    by-test true false c = refl
+    by-test false b c = refl

@@ -5,6 +5,8 @@ use Rattle.verdict.specs.Refusals.{TIME}
 use Rattle.label.specs.declared.Label.{Label}
 use Rattle.label.specs.declared.Judgement.{Judgement}
 use Rattle.label.specs.declared.Judgement.TheVariants.{Time, NoTime, Bad}
+use Rattle.label.specs.declared.Shown.{Shown}
+use Rattle.label.specs.declared.Shown.TheVariants.{Nothing, Time as ShownTime, NoTime as ShownNoTime, NoLabel}
 
 -- second, minute, hour, day, month, year, in this order (001, 8.2.2)
 abbrev pub label_bytes : Label → List ℕ
@@ -50,28 +52,24 @@ allowed j = eqb (number_of j) 0
 unfoldable pub time_of : Label → Judgement
 time_of l = cond (eqb l.day 0) NoTime Time
 
--- "the typed reading shows it": a time, no time, that a type has no label, and on a refusal nothing
-pub data Case : Type 0 where
-  nothing time no_time no_label : Case
-
--- the number of each
-abbrev pub number_shown : Case → ℕ
-number_shown nothing = 0
-number_shown time = 1
-number_shown no_time = 2
-number_shown no_label = 3
+-- "the typed reading shows it": a time, no time, that a type has no label, and on a refusal nothing; the number of each
+abbrev pub number_shown : Shown → ℕ
+number_shown Nothing = 0
+number_shown ShownTime = 1
+number_shown ShownNoTime = 2
+number_shown NoLabel = 3
 
 -- the number by the judgement; a bad label is not read
 abbrev pub shown_as : Judgement → ℕ
-shown_as Time = number_shown time
-shown_as NoTime = number_shown no_time
-shown_as Bad = number_shown nothing
+shown_as Time = number_shown ShownTime
+shown_as NoTime = number_shown ShownNoTime
+shown_as Bad = number_shown Nothing
 
 abbrev pub SHOWN_NOTHING : ℕ
-SHOWN_NOTHING = number_shown nothing
+SHOWN_NOTHING = number_shown Nothing
 
 abbrev pub SHOWN_NO_LABEL : ℕ
-SHOWN_NO_LABEL = number_shown no_label
+SHOWN_NO_LABEL = number_shown NoLabel
 
 -- document 01's rule, which stood up to release 1.3: six zeros are out of range
 abbrev pub judged_in13 : Label → Judgement
