@@ -5,6 +5,7 @@ use Prim.Native.String.{String}
 use mathlib.Core.List.{List, [], ◌∷◌, ◌++◌, map}
 use mathlib.Core.Path.{◌≡◌, refl}
 use lib.ListN.{length, set, take, drop, replicate}
+use Rattle.std.specs.Prelude.{None}
 use Rattle.exchange.specs.declared.Exchanges.{Exchanges}
 use Rattle.exchange.specs.Begins.{mode_of, begun_verdict, begun, begun_output}
 use Rattle.exchange.specs.Calls.{Asked, begun_by, Call, begin, reply, tick, after}
@@ -42,7 +43,6 @@ use Rattle.reading.specs.Calls.{State, Answer, pad_to, held_bytes, sound, answer
 use Rattle.reply.specs.declared.Due.TheVariants.{Confirm}
 use Rattle.reply.specs.Replies.{command_for}
 use Rattle.taking.specs.Boxes.{own, box_line, box_after, box_log}
-use Rattle.unit.specs.declared.Carrier.TheVariants.{Any}
 use Rattle.unit.specs.Objects.{text_size, end_of, walk, timely}
 use Rattle.unit.specs.Units.{judged_unit, judged_under}
 use Rattle.verdict.specs.declared.Verdict.{Verdict}
@@ -230,8 +230,8 @@ checked-first =
     ∷ (shown (afresh (take 25 (start 1 4))), shows MORE 0 0 25 0 (take 25 (start 1 4)))
     ∷ (shown (afresh (start 1 4)), shows LENGTH 0 0 26 0 (drop 1 (start 1 4)))
     -- "5. n of type 24: 127 good, 128 COUNT."
-    ∷ (of (judged_unit rows Any (operations 127)), of good)
-    ∷ (of (judged_unit rows Any (operations 128)), of (refusal COUNT 0))
+    ∷ (of (judged_unit rows None (operations 127)), of good)
+    ∷ (of (judged_unit rows None (operations 128)), of (refusal COUNT 0))
     -- "6. T 1, R 0: begin, tick: failed."
     ∷ (outcomes (opened 1 0), of_the_first FAILED)
     -- "7. T 1, R 1: resend, then failed."

@@ -3,6 +3,7 @@ use Prim.Native.Nat.{ℕ, ◌%◌}
 use mathlib.Core.List.{List, [], ◌∷◌, ◌++◌, map}
 use mathlib.Core.Path.{◌≡◌, refl}
 use lib.ListN.{length, set, take, drop, replicate}
+use Rattle.std.specs.Prelude.{None}
 use Rattle.frame.specs.Frame.{unit_length, ended, summed}
 use Rattle.kinds.specs.Table.{table, rows_of, rows, find_row}
 use Rattle.label.specs.Times.{label_of, judged, in_ranges}
@@ -17,7 +18,6 @@ use Rattle.packet.specs.declared.Header.{Header}
 use Rattle.packet.specs.Frames.{judged_content, judged_packet, unit_place}
 use Rattle.packet.specs.Headers.{header_of}
 use Rattle.reply.specs.Replies.{command_for, due_to, reply_verdict, answered, written_reply}
-use Rattle.unit.specs.declared.Carrier.TheVariants.{Any}
 use Rattle.unit.specs.Objects.{text_size, end_of, walk, timely}
 use Rattle.unit.specs.Units.{judged_unit, judged_under}
 use Rattle.verdict.specs.declared.Verdict.{Verdict}
@@ -80,7 +80,7 @@ checked-confirms =
     ∷ (packet (carrying 2 6 (0xFF ∷ [])), of (refusal VERSION 0))
     ∷ (reply (carrying 2 6 (0xFF ∷ [])), none)
     -- alone the same byte is no unit
-    ∷ (of (judged_unit rows Any (0xFF ∷ [])), of (refusal UNIT 0))
+    ∷ (of (judged_unit rows None (0xFF ∷ [])), of (refusal UNIT 0))
     ∷ []
 
 pub confirms-so : map (λ (e : List ℕ × List ℕ). e.0) checked-confirms ≡ map (λ (e : List ℕ × List ℕ). e.1) checked-confirms

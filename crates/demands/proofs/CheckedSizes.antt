@@ -3,6 +3,7 @@ use Prim.Native.Nat.{ℕ}
 use mathlib.Core.List.{List, [], ◌∷◌, ◌++◌, map}
 use mathlib.Core.Path.{◌≡◌, refl}
 use lib.ListN.{replicate}
+use Rattle.std.specs.Prelude.{None}
 use Rattle.frame.specs.Frame.{unit_length, ended, summed}
 use Rattle.kinds.specs.Table.{table, rows_of, rows, find_row}
 use Rattle.label.specs.Times.{judged, in_ranges}
@@ -17,7 +18,6 @@ use Rattle.place.specs.declared.Reply.TheVariants.{Confirm, Answer, Deny, BadAns
 use Rattle.taking.specs.declared.Role.{Role}
 use Rattle.taking.specs.declared.Role.TheVariants.{Other, Is}
 use Rattle.taking.specs.Takes.{role_in, role_of}
-use Rattle.unit.specs.declared.Carrier.TheVariants.{Any}
 use Rattle.unit.specs.Objects.{text_size, end_of, walk, timely}
 use Rattle.unit.specs.Units.{one_size, judged_unit, judged_under}
 use Rattle.verdict.specs.Orders.{in_order, refusal, good}
@@ -30,7 +30,7 @@ abbrev sized : ℕ → ℕ → ℕ → List ℕ
 sized t n bytes = t ∷ n ∷ replicate bytes 1
 
 abbrev alone : List ℕ → List ℕ
-alone u = of (judged_unit rows Any u)
+alone u = of (judged_unit rows None u)
 
 -- a system state whose label has a day of 0
 abbrev bad-state : List ℕ
@@ -73,9 +73,9 @@ checked-sizes =
     ∷ (alone (0x18 ∷ 0x7F ∷ []), of (refusal SHORT 0))
     ∷ (alone (0x18 ∷ 0x80 ∷ []), of (refusal COUNT 0))
     -- 1.5 said SIZE, 14 at place 0, of one that is cut and of one with a byte more
-    ∷ (of (unit_by in15 rows Any (sized 1 3 20)), of one_size)
-    ∷ (of (unit_by in15 rows Any (sized 1 3 31)), of one_size)
-    ∷ (of (unit_by in15 rows Any (sized 1 3 30)), of good)
+    ∷ (of (unit_by in15 rows None (sized 1 3 20)), of one_size)
+    ∷ (of (unit_by in15 rows None (sized 1 3 31)), of one_size)
+    ∷ (of (unit_by in15 rows None (sized 1 3 30)), of good)
     -- in a packet, and denied: LONG is "VERSION or later" by the order
     ∷ (packet (carrying 1 2 (sized 1 3 15)), of (refusal SHORT 1))
     ∷ (packet (carrying 1 2 (sized 1 3 31)), of (refusal LONG 0))

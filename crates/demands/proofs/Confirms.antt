@@ -7,6 +7,7 @@ use mathlib.Core.Logic.{◌↔◌}
 use mathlib.Core.Path.{◌≡◌, refl, sym, ap, ◌∙◌}
 use borrow.Author.Tests.{le-leb, leb-true}
 use lib.ListN.{length, take}
+use Rattle.std.specs.Prelude.{None}
 use Rattle.exchange.specs.declared.Exchanges.{Exchanges}
 use Rattle.exchange.specs.Table.{answered as replied}
 use Rattle.frame.specs.Frame.{unit_length, frame_tests}
@@ -33,7 +34,6 @@ use Rattle.reply.specs.Replies.{is_due, command_for, due_to, reply_header, reply
 use Rattle.reply.proofs.Promises.{none-to-kept}
 use Rattle.taking.specs.Takes.{taken}
 use Rattle.taking.proofs.Promises.{taken-confirm, taken-deny}
-use Rattle.unit.specs.declared.Carrier.TheVariants.{Any}
 use Rattle.unit.specs.Units.{is_kept, is_command, judged_unit, judged_under}
 use Rattle.unit.proofs.Under.{by-kept, kept-command, unit-short, short-told, unit-stays, unit-only}
 use Rattle.verdict.specs.declared.Verdict.{Verdict}
@@ -124,8 +124,8 @@ confirm-taken x p q g k e command source serial =
 -- "UNIT stays for a unit under 2 bytes, under 1, 2, 4, 5 or alone", exactly
 pub unit-refused-when : (c : ℕ) (u : List ℕ)
     → ((judged_under rows c u ≡ refusal UNIT 0) ↔ ((is_command c ≡ true) × (is_kept c ≡ false) × (length u < 2)))
-    × ((judged_unit rows Any u ≡ refusal UNIT 0) ↔ (length u < 2))
+    × ((judged_unit rows None u ≡ refusal UNIT 0) ↔ (length u < 2))
 unit-refused-when c u = (
   (λ e. unit-only rows c u (ap (λ (v : Verdict). v.number) e), λ w. unit-stays rows c u w.0 w.1 w.2),
-  (λ e. short-told rows Any u (ap (λ (v : Verdict). v.number) e), λ h. unit-short rows Any u h),
+  (λ e. short-told rows None u (ap (λ (v : Verdict). v.number) e), λ h. unit-short rows None u h),
 )

@@ -9,12 +9,12 @@ use mathlib.Core.Path.{◌≡◌, sym, ap, subst, ◌∙◌}
 use denote.Laws.{Is}
 use lib.ListN.{length, get_or, take, drop}
 use mir.Val.{Val}
+use Rattle.std.specs.Prelude.{Some, None}
 use Rattle.fields.specs.declared.Fields.{Fields}
 use Rattle.fields.specs.Layouts.{object_bytes, kept as members_of}
 use Rattle.fields.specs.contracts.Fields.{the_row as fields-row}
 use Rattle.fields.proofs.Rounds.{Ranged}
 use Rattle.kinds.specs.declared.Row.{Row}
-use Rattle.kinds.specs.declared.Found.TheVariants.{At}
 use Rattle.kinds.specs.Table.{NONE, table, rows, find_row, entry_of, description_size}
 use Rattle.label.specs.Times.{judged, shown_as}
 use Rattle.objects.specs.Writing.{is_timely, write_verdict, written_unit}
@@ -45,7 +45,6 @@ use Rattle.packet.specs.Headers.{opened_packet}
 use Rattle.packet.specs.contracts.Header.{the_row}
 use Rattle.typed.specs.declared.Typed.{Typed}
 use Rattle.typed.specs.Typing.{showing, typed_object, description_place}
-use Rattle.unit.specs.declared.Carrier.TheVariants.{Any}
 use Rattle.unit.specs.Objects.{type_of, count_of, object_at}
 use Rattle.unit.specs.Units.{row_of, judged_unit}
 use Rattle.verdict.specs.Orders.{good, is_good, part_in}
@@ -120,14 +119,14 @@ object-alone u k f d g =
 
 -- what was written is read back, fields and description, wherever the unit is good after the write
 pub object-read-back : (u : List ℕ) (k : ℕ) (f : Fields) (d : List ℕ) → is_good (write_verdict rows u k f d) ≡ true
-    → is_good (judged_unit rows Any (written_unit table u k f d)) ≡ true → Ranged f
+    → is_good (judged_unit rows None (written_unit table u k f d)) ≡ true → Ranged f
     → ◌≡◌ {A = Typed} (typed_object table (written_unit table u k f d) k) (showing (entry_of table (type_of u)) good (members_of (entry_of table (type_of u)) f))
     × (part_in (written_unit table u k f d) (description_place rows (written_unit table u k f d) k) ≡ d)
 object-read-back u k f d w g ranged = (written-reads u k f d w g ranged, written-described u k f d w g)
 
 -- a good unit stays good
 pub object-stays-good : (u : List ℕ) (k : ℕ) (f : Fields) (d : List ℕ) → is_good (write_verdict rows u k f d) ≡ true
-    → is_good (judged_unit rows Any u) ≡ true → is_good (judged_unit rows Any (written_unit table u k f d)) ≡ true
+    → is_good (judged_unit rows None u) ≡ true → is_good (judged_unit rows None (written_unit table u k f d)) ≡ true
 object-stays-good = written-stays-good
 
 -- what may be written into a unit of n objects of type t, which has row r
@@ -138,10 +137,10 @@ Fitted t n r w =
 -- n objects written one by one, in any order and some perhaps again, into a unit in which type and n stand before any bytes of the right number: none is refused, the unit is then
 -- good, and object k reads back as w k, which is its last write
 pub objects-read-back : (t n : ℕ) (body : List ℕ) (r : Row) (ws : List Write) (w : ℕ → Write)
-    → find_row rows t ≡ At r → r.text ≡ NONE → 1 ≤ n → n ≤ r.most → length body ≡ r.size * n
+    → find_row rows t ≡ Some r → r.text ≡ NONE → 1 ≤ n → n ≤ r.most → length body ≡ r.size * n
     → Each (Fitted t n r) ws → ((k : ℕ) → k < n → last_of k ws ≡ some (w k))
     → AllTaken table (t ∷ n ∷ body) ws
-    × (is_good (judged_unit rows Any (written_all table (t ∷ n ∷ body) ws)) ≡ true)
+    × (is_good (judged_unit rows None (written_all table (t ∷ n ∷ body) ws)) ≡ true)
     × ((k : ℕ) → k < n
     → ◌≡◌ {A = Typed} (typed_object table (written_all table (t ∷ n ∷ body) ws) k) (showing (entry_of table t) good (members_of (entry_of table t) (w k).fields))
     × (part_in (written_all table (t ∷ n ∷ body) ws) (description_place rows (written_all table (t ∷ n ∷ body) ws) k) ≡ (w k).description))
@@ -165,12 +164,12 @@ pub text-good-when : (out t : List ℕ) → (is_good (text_verdict out t) ≡ tr
 text-good-when = reread.text-good-when
 
 pub text-read-back : (out t : List ℕ) → is_good (text_verdict out t) ≡ true
-    → (is_good (judged_unit rows Any (take (3 + length t) (written_text out t))) ≡ true)
+    → (is_good (judged_unit rows None (take (3 + length t) (written_text out t))) ≡ true)
     × (part_in (take (3 + length t) (written_text out t)) (description_place rows (take (3 + length t) (written_text out t)) 0) ≡ t)
     × (drop (3 + length t) (written_text out t) ≡ drop (3 + length t) out)
 text-read-back out t g =
     let there = reread.text-there out t g in (
-      ap (λ (u : List ℕ). is_good (judged_unit rows Any u)) there ∙ text-good t,
+      ap (λ (u : List ℕ). is_good (judged_unit rows None u)) there ∙ text-good t,
       ap (λ (u : List ℕ). part_in u (description_place rows u 0)) there ∙ reread.text-read t,
       reread.text-beyond out t g,
     )
@@ -195,13 +194,13 @@ pub text-in-output : (out t : List ℕ)
 text-in-output out t = (within.text-good-when out t, λ g. (within.text-written out t g, within.text-head-kept out t g, within.text-rest-kept out t g))
 
 -- and read, then written: what the reader gives of the objects of an accepted unit, written in any order into any unit of its type, number and length, gives its bytes again
-pub objects-again : (u body : List ℕ) (ws : List Write) → Octets u → is_good (judged_unit rows Any u) ≡ true → (row_of rows u).text ≡ NONE
+pub objects-again : (u body : List ℕ) (ws : List Write) → Octets u → is_good (judged_unit rows None u) ≡ true → (row_of rows u).text ≡ NONE
     → 2 + length body ≡ length u
     → Each (λ w. (w.number < count_of u) × (w ≡ read_at table u w.number)) ws → ((k : ℕ) → k < count_of u → last_of k ws ≡ some (read_at table u k))
     → AllTaken table (type_of u ∷ count_of u ∷ body) ws × (written_all table (type_of u ∷ count_of u ∷ body) ws ≡ u)
 objects-again u body ws bytes g plain long reads all = (again-taken u bytes g plain body long ws reads all, unit-again u bytes g plain body long ws reads all)
 
-pub text-again : (u out : List ℕ) → Octets u → is_good (judged_unit rows Any u) ≡ true → type_of u ≡ 26 → length u ≤ length out
+pub text-again : (u out : List ℕ) → Octets u → is_good (judged_unit rows None u) ≡ true → type_of u ≡ 26 → length u ≤ length out
     → (is_good (text_verdict out (part_in u (description_place rows u 0))) ≡ true)
     × (take (length u) (written_text out (part_in u (description_place rows u 0))) ≡ u)
 text-again u out bytes g type room =

@@ -9,6 +9,7 @@ use mathlib.Core.Path.{◌≡◌, refl, sym, ap, subst, ◌∙◌}
 use borrow.Author.Tests.{eqb-false, ne_eqb, leb-true, leb-false, le-leb, not-true, not-false}
 use lib.Dec.{eqb, leb}
 use lib.ListN.{length, get_or, drop}
+use Rattle.std.specs.Prelude.{Some, None}
 use Rattle.exchange.specs.declared.Draft.{Draft}
 use Rattle.exchange.specs.declared.Exchanges.{Exchanges}
 use Rattle.exchange.specs.Begins.{headed, opening_tests}
@@ -27,11 +28,9 @@ use Rattle.octets.proofs.Searches.{first_fits, first-none, first-is, first_absen
 use Rattle.output.specs.Writing.{room_tests}
 use Rattle.packet.specs.declared.Header.{Header}
 use Rattle.packet.specs.Frames.{command_of, unit_of}
-use Rattle.unit.specs.declared.Carrier.{Carrier}
-use Rattle.unit.specs.declared.Carrier.TheVariants.{Any, By}
 use Rattle.unit.specs.Objects.{type_of, count_of}
 use Rattle.unit.specs.Places.{number_test}
-use Rattle.unit.specs.Units.{row_of, one_size, one_size_test, shape_by, is_kept, empty_tests, is_command}
+use Rattle.unit.specs.Units.{Carrier, row_of, one_size, one_size_test, shape_by, is_kept, empty_tests, is_command}
 use Rattle.verdict.specs.declared.Verdict.{Verdict}
 use Rattle.verdict.specs.Orders.{Test, ◌or_else◌, in_order, refusal, good}
 use Rattle.verdict.specs.Refusals.{CUT, START, LENGTH, END, SUM, VERSION, COMMAND, TIME, UNIT, TYPE, COUNT, KIND, TEXT}
@@ -173,15 +172,15 @@ module _ (rs : List Row) where
   pub under-narrowed : (c : ℕ) (u : List ℕ) → Narrowed (ObjectWithoutTime rs u) (under_by in13 rs c u) (under_by in14 rs c u)
   under-narrowed c u = over (ObjectWithoutTime rs u) _ _ (go (is_kept c)) ((is_command c or_else COMMAND) ∷ [])
     where
-      go : (b : Bool) → Narrowed (ObjectWithoutTime rs u) (cond b (in_order (empty_tests u) good) (unit_by in13 rs (By c) u)) (cond b (in_order (empty_tests u) good) (unit_by in14 rs (By c) u))
+      go : (b : Bool) → Narrowed (ObjectWithoutTime rs u) (cond b (in_order (empty_tests u) good) (unit_by in13 rs (Some c) u)) (cond b (in_order (empty_tests u) good) (unit_by in14 rs (Some c) u))
       go true = inl refl
-      go false = unit-narrowed (By c) u
+      go false = unit-narrowed (Some c) u
 
   -- what a unit under a command is not refused for where the unit by itself is not
-  under_by_lem : (c : ℕ) (u : List ℕ) (i : ℕ) → (unit_by in14 rs (By c) u ≡ refusal TIME i → ⊥) → under_by in14 rs c u ≡ refusal TIME i → ⊥
+  under_by_lem : (c : ℕ) (u : List ℕ) (i : ℕ) → (unit_by in14 rs (Some c) u ≡ refusal TIME i → ⊥) → under_by in14 rs c u ≡ refusal TIME i → ⊥
   under_by_lem c u i not_so = apart i ((is_command c or_else COMMAND) ∷ []) _ (other COMMAND i refl, tt) (go (is_kept c))
     where
-      go : (b : Bool) → cond b (in_order (empty_tests u) good) (unit_by in14 rs (By c) u) ≡ refusal TIME i → ⊥
+      go : (b : Bool) → cond b (in_order (empty_tests u) good) (unit_by in14 rs (Some c) u) ≡ refusal TIME i → ⊥
       go true = apart i (empty_tests u) good (other UNIT i refl, tt) (other 0 i refl)
       go false = not_so
 
@@ -190,7 +189,7 @@ module _ (rs : List Row) where
   unfolding in_order
   under-apart c u =
       under_by_lem c u 0
-      (apart 0 (shape_by one_size_test rs (By c) u) _ (others rs (By c) u 0)
+      (apart 0 (shape_by one_size_test rs (Some c) u) _ (others rs (Some c) u 0)
       (apart 0 (time_test_by judged (row_of rs u) u ∷ []) good (λ e. omega (arith, ap (λ (v : Verdict). v.place) e), tt) (other 0 0 refl)))
 
   -- the header's label, then the unit under its command
@@ -227,7 +226,7 @@ module _ (rs : List Row) where
       over (NewWithoutTime rs u k x) _ _
       (label-test (NewWithoutTime rs u k x) good good (inl refl) (suc k) (new_timely_by judged_in13 (row_of rs u) x) (new_timely_by judged (row_of rs u) x)
       (not (eqb (row_of rs u).label NONE) && is_no_time x.label) (go (eqb (row_of rs u).label NONE)) so (other 0 (suc k) refl))
-      ((shape_by one_size_test rs Any u ++ (number_test u k ∷ []))
+      ((shape_by one_size_test rs None u ++ (number_test u k ∷ []))
       ++ ((eqb x.kind (type_of u) && eqb (row_of rs u).text NONE or_else KIND) ∷ (eqb (length d) (description_size (row_of rs u)) or_else TEXT) ∷ []))
     where
       go : (b : Bool) → cond b true (allowed (judged x.label)) ≡ (cond b true (allowed (judged_in13 x.label)) || (not b && is_no_time x.label))
@@ -267,7 +266,7 @@ module _ (rs : List Row) where
       under-apart rs c u (sym (ap (λ (b : Bool). cond b (under_by in14 rs c u) (refusal TIME 0)) stands) ∙ h ∙ ap (refusal TIME) z.0)
   headed-spares l c u i (inr o) h =
       by-test (allowed (judged l))
-      (λ t. under_by_lem rs c u i (unit-spares (By c) u i o) (sym (ap (λ (b : Bool). cond b (under_by in14 rs c u) (refusal TIME 0)) t) ∙ h))
+      (λ t. under_by_lem rs c u i (unit-spares (Some c) u i o) (sym (ap (λ (b : Bool). cond b (under_by in14 rs c u) (refusal TIME 0)) t) ∙ h))
       (λ t.
       let first : refusal TIME 0 ≡ refusal TIME i = sym (ap (λ (b : Bool). cond b (under_by in14 rs c u) (refusal TIME 0)) t) ∙ h in
       absurd (omega (arith, ap (λ (v : Verdict). v.place) first, o.place)))

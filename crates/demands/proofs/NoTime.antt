@@ -6,6 +6,7 @@ use mathlib.Core.List.{List, []}
 use mathlib.Core.Path.{◌≡◌, refl, sym, ap, ◌∙◌}
 use borrow.Author.Tests.{le-leb}
 use lib.ListN.{length, take, replicate}
+use Rattle.std.specs.Prelude.{None}
 use Rattle.fields.specs.Layouts.{fields_from, fields_in, nothing, object_bytes}
 use Rattle.frame.specs.Frame.{unit_length, frame_tests}
 use Rattle.kinds.specs.Table.{Entry, NONE, table, rows, entry_of}
@@ -36,7 +37,6 @@ use Rattle.reply.proofs.Promises.{reply-accepted}
 use Rattle.typed.specs.declared.Typed.{Typed}
 use Rattle.typed.specs.Typing.{shown_in, showing, typed_at, typed_object}
 use Rattle.typed.proofs.Shown.{labelled-stands}
-use Rattle.unit.specs.declared.Carrier.TheVariants.{Any}
 use Rattle.unit.specs.Objects.{type_of, count_of}
 use Rattle.unit.specs.Places.{object_place}
 use Rattle.unit.specs.Units.{row_of, judged_unit}
@@ -113,7 +113,7 @@ module _ (u : List ℕ) (k : ℕ) where
       go false e = (refl, λ f. refl)
 
   module _ (g : is_good (typed_object table u k).verdict ≡ true) where
-    there : (is_good (judged_unit rows Any u) ≡ true) × (suc k ≤ count_of u)
+    there : (is_good (judged_unit rows None u) ≡ true) × (suc k ≤ count_of u)
     there = good-number rows u k (ap is_good (sym object_verdict_lem.0) ∙ g)
 
     read : typed_object table u k ≡ showing entry good (fields_in entry (bytes_at u k))

@@ -5,6 +5,7 @@ use mathlib.Core.Bool.{true, false}
 use mathlib.Core.List.{List}
 use mathlib.Core.Logic.{◌⊎◌, inl, inr}
 use mathlib.Core.Path.{◌≡◌, sym, ap, ◌∙◌}
+use Rattle.std.specs.Prelude.{None}
 use Rattle.exchange.specs.declared.Draft.{Draft}
 use Rattle.exchange.specs.declared.Exchanges.{Exchanges}
 use Rattle.fields.specs.declared.Fields.{Fields}
@@ -20,7 +21,6 @@ use Rattle.packet.specs.Frames.{command_of, unit_of}
 use Rattle.packet.specs.Headers.{header_of}
 use Rattle.reply.specs.declared.Due.TheVariants.{Confirm, Deny}
 use Rattle.reply.specs.Replies.{to_good, to_refused, due_as}
-use Rattle.unit.specs.declared.Carrier.TheVariants.{Any}
 use Rattle.verdict.specs.Orders.{in_order, refusal, good, is_good}
 use Rattle.verdict.specs.Refusals.{TIME}
 use Rattle.demands.specs.Rules.{in13, in14, unit_by, under_by, content_by, packet_by, writer_by, begun_by, object_by, due_by, reply_as, reply_by, take_as, taken_by}
@@ -35,8 +35,8 @@ label-as-in-1-3 l = (as-in-13 l, λ z. (no-time-in-13 l z, no-time-judged l z))
 pub packet-as-in-1-3 : (p : List ℕ) → Narrowed (WithoutTime (header_of p).label rows (unit_of p)) (packet_by in13 rows p) (packet_by in14 rows p)
 packet-as-in-1-3 p = over (WithoutTime (header_of p).label rows (unit_of p)) _ _ (content-narrowed rows p) (frame_tests 1024 p)
 
-pub unit-as-in-1-3 : (u : List ℕ) → Narrowed (ObjectWithoutTime rows u) (unit_by in13 rows Any u) (unit_by in14 rows Any u)
-unit-as-in-1-3 u = unit-narrowed rows Any u
+pub unit-as-in-1-3 : (u : List ℕ) → Narrowed (ObjectWithoutTime rows u) (unit_by in13 rows None u) (unit_by in14 rows None u)
+unit-as-in-1-3 u = unit-narrowed rows None u
 
 pub unit-under-as-in-1-3 : (c : ℕ) (u : List ℕ) → Narrowed (ObjectWithoutTime rows u) (under_by in13 rows c u) (under_by in14 rows c u)
 unit-under-as-in-1-3 c u = under-narrowed rows c u
@@ -45,8 +45,8 @@ unit-under-as-in-1-3 c u = under-narrowed rows c u
 pub packet-spares-zeros : (p : List ℕ) (i : ℕ) → WithoutTime (header_of p).label rows (unit_of p) i → packet_by in14 rows p ≡ refusal TIME i → ⊥
 packet-spares-zeros p i w e = packet-spares rows p i w e
 
-pub unit-spares-zeros : (u : List ℕ) (i : ℕ) → ObjectWithoutTime rows u i → unit_by in14 rows Any u ≡ refusal TIME i → ⊥
-unit-spares-zeros u i o e = unit-spares rows Any u i o e
+pub unit-spares-zeros : (u : List ℕ) (i : ℕ) → ObjectWithoutTime rows u i → unit_by in14 rows None u ≡ refusal TIME i → ⊥
+unit-spares-zeros u i o e = unit-spares rows None u i o e
 
 -- what is written, of the label that is handed over and of those in the unit that stands
 pub write-packet-as-in-1-3 : (out : List ℕ) (h : Header) (l : ℕ)

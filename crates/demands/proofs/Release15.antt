@@ -6,6 +6,7 @@ use mathlib.Core.List.{List, [], ◌∷◌, ◌++◌}
 use mathlib.Core.Path.{◌≡◌, refl, sym, ap, ◌∙◌}
 use borrow.Author.Tests.{eqb-true, ne_eqb}
 use lib.Dec.{eqb}
+use Rattle.std.specs.Prelude.{Some, None}
 use Rattle.exchange.specs.declared.Draft.{Draft}
 use Rattle.exchange.specs.declared.Exchanges.{Exchanges}
 use Rattle.exchange.specs.Begins.{headed, opening_tests, begun_verdict, begun_as, begun, begun_output}
@@ -30,11 +31,9 @@ use Rattle.taking.specs.declared.Role.{Role}
 use Rattle.taking.specs.declared.Role.TheVariants.{Other}
 use Rattle.taking.specs.Takes.{role_in, role_of, taken_as, taken}
 use Rattle.typed.specs.Typing.{typed_at, typed_object, described_at, description_place}
-use Rattle.unit.specs.declared.Carrier.{Carrier}
-use Rattle.unit.specs.declared.Carrier.TheVariants.{Any, By}
 use Rattle.unit.specs.Objects.{type_of, timely, object_at}
 use Rattle.unit.specs.Places.{number_test, placed_after, object_place}
-use Rattle.unit.specs.Units.{row_of, time_test, unit_tests, is_kept, kept_tests, is_command, judged_unit, judged_under, one_size, of_size, as_one_size}
+use Rattle.unit.specs.Units.{Carrier, row_of, time_test, unit_tests, is_kept, kept_tests, is_command, judged_unit, judged_under, one_size, of_size, as_one_size}
 use Rattle.unit.proofs.Sizes.{of-size-refused}
 use Rattle.unit.proofs.Split.{order-was, unit-was}
 use Rattle.verdict.specs.declared.Verdict.{Verdict}
@@ -70,20 +69,20 @@ pub unit-under-as-in-1-5 : (c : ℕ) (u : List ℕ) → under_by in15 rows c u �
 unfolding judged_under
 unit-under-as-in-1-5 c u =
     ap (in_order ((is_command c or_else COMMAND) ∷ [])) (go (is_kept c))
-    ∙ in-other-words as_one_size ((is_command c or_else COMMAND) ∷ []) (cond (is_kept c) (in_order (kept_tests u) good) (judged_unit rows (By c) u))
+    ∙ in-other-words as_one_size ((is_command c or_else COMMAND) ∷ []) (cond (is_kept c) (in_order (kept_tests u) good) (judged_unit rows (Some c) u))
   where
-    go : (b : Bool) → cond b (in_order (kept_tests u) good) (unit_by in15 rows (By c) u) ≡ as_one_size (cond b (in_order (kept_tests u) good) (judged_unit rows (By c) u))
+    go : (b : Bool) → cond b (in_order (kept_tests u) good) (unit_by in15 rows (Some c) u) ≡ as_one_size (cond b (in_order (kept_tests u) good) (judged_unit rows (Some c) u))
     go true = in-other-words as_one_size (kept_tests u) good
-    go false = unit-as-in-1-5 (By c) u
+    go false = unit-as-in-1-5 (Some c) u
 
 -- where an object stands
 pub object-as-in-1-5 : (u : List ℕ) (k : ℕ) → stands_by in15 rows u k ≡ cond (of_size (object_place rows u k).verdict) (no_part one_size) (object_place rows u k)
 unfolding object_place placed_after part_by timely_by timely
 object-as-in-1-5 u k =
-    let v = in_order (unit_tests rows Any u ++ (number_test u k ∷ [])) good in
+    let v = in_order (unit_tests rows None u ++ (number_test u k ∷ [])) good in
     let from = object_at (row_of rows u) u k in
     let to = object_at (row_of rows u) u (suc k) in
-    ap (λ (w : Verdict). part_by w from to) (order-was rows Any u (time_test (row_of rows u) u ∷ number_test u k ∷ []) good)
+    ap (λ (w : Verdict). part_by w from to) (order-was rows None u (time_test (row_of rows u) u ∷ number_test u k ∷ []) good)
     ∙ either (λ (w : Verdict). part_by w from to) v
     ∙ ap (λ (w : Verdict). cond (of_size w) (no_part one_size) (part_by v from to)) (sym (part-good v from to).0)
 
@@ -140,7 +139,7 @@ module _ (out : List ℕ) (h : Header) (l : ℕ) where
 module _ (u : List ℕ) (k : ℕ) (f : Fields) (d : List ℕ) where
   object-said : object_by in15 rows u k f d ≡ as_one_size (write_verdict rows u k f d)
   unfolding write_verdict new_timely_by is_timely
-  object-said = order-was rows Any u (placed_tests rows u k f d) good
+  object-said = order-was rows None u (placed_tests rows u k f d) good
 
   pub write-object-as-in-1-5 : (object_by in15 rows u k f d ≡ as_one_size (write_verdict rows u k f d))
       × (written_unit_as table u k f d (object_by in15 rows u k f d) ≡ written_unit table u k f d)

@@ -5,6 +5,7 @@ use mathlib.Core.List.{List, [], ◌∷◌, ◌++◌}
 use mathlib.Core.Logic.{◌↔◌}
 use mathlib.Core.Path.{◌≡◌, refl, sym, ap, subst, ◌∙◌}
 use lib.ListN.{length, take}
+use Rattle.std.specs.Prelude.{Some}
 use Rattle.exchange.specs.declared.Exchanges.{Exchanges}
 use Rattle.exchange.specs.Table.{answered}
 use Rattle.frame.specs.Frame.{frame_tests}
@@ -16,10 +17,8 @@ use Rattle.place.specs.declared.Reply.TheVariants.{BadAnswer}
 use Rattle.reply.specs.Replies.{to_refused, due_to}
 use Rattle.taking.specs.Takes.{taken}
 use Rattle.taking.proofs.Promises.{late_refused, taken-bad-answer}
-use Rattle.unit.specs.declared.Carrier.{Carrier}
-use Rattle.unit.specs.declared.Carrier.TheVariants.{By}
 use Rattle.unit.specs.Objects.{count_of, object_at, timely}
-use Rattle.unit.specs.Units.{row_of, count_tests, shape_tests, one_size, is_kept, is_command, judged_unit, judged_under, of_size}
+use Rattle.unit.specs.Units.{Carrier, row_of, count_tests, shape_tests, one_size, is_kept, is_command, judged_unit, judged_under, of_size}
 use Rattle.unit.proofs.Cuts as cuts
 use Rattle.unit.proofs.Cuts.{CutAt}
 use Rattle.unit.proofs.Ends.{ShortAt, cut_short, appended-long}
@@ -68,15 +67,15 @@ module _ (c : ℕ) (unit : is_kept c ≡ false) (u : List ℕ) (g : is_good (jud
   unfolding judged_under
   command = (good-held ((is_command c or_else COMMAND) ∷ []) _ refl g).0.0
 
-  good-by : is_good (judged_unit rows (By c) u) ≡ true
+  good-by : is_good (judged_unit rows (Some c) u) ≡ true
   good-by = ap is_good (sym (judged_under_lem rows c u command unit)) ∙ g
 
   pub cut-under : (m : ℕ) → 2 ≤ m → m < length u → ShortAt (judged_under rows c (take m u)) u m
   cut-under m low high =
-      subst (λ (v : Verdict). ShortAt v u m) (sym (judged_under_lem rows c (take m u) command unit)) (cut_short (By c) u m (unit-good rows (By c) u good-by) low high)
+      subst (λ (v : Verdict). ShortAt v u m) (sym (judged_under_lem rows c (take m u) command unit)) (cut_short (Some c) u m (unit-good rows (Some c) u good-by) low high)
 
   pub padded-under : (x : List ℕ) → 1 ≤ length x → judged_under rows c (u ++ x) ≡ refusal LONG 0
-  padded-under x some = judged_under_lem rows c (u ++ x) command unit ∙ appended-long (By c) u x (unit-good rows (By c) u good-by) some
+  padded-under x some = judged_under_lem rows c (u ++ x) command unit ∙ appended-long (Some c) u x (unit-good rows (Some c) u good-by) some
 
 -- "VERSION or later" is by the order: the frame of a packet that is SHORT or LONG is good, the reply of a refused one is due to it, and an answer is a bad one
 module _ (p : List ℕ) (e : of_size (judged_packet rows p) ≡ true) where

@@ -20,10 +20,9 @@ use Rattle.packet.specs.Frames.{judged_content, judged_packet, unit_place}
 use Rattle.packet.specs.Headers.{read_as, opened_packet}
 use Rattle.reply.specs.Replies.{due_as, due_to, reply_verdict, answer_as, answered, written_reply_as, written_reply}
 use Rattle.taking.specs.Takes.{role_of, taken}
-use Rattle.unit.specs.declared.Carrier.{Carrier}
 use Rattle.unit.specs.Objects.{timely}
 use Rattle.unit.specs.Places.{object_place}
-use Rattle.unit.specs.Units.{judged_unit, judged_under}
+use Rattle.unit.specs.Units.{Carrier, judged_unit, judged_under}
 use Rattle.verdict.specs.Orders.{in_order, good, is_good}
 use Rattle.demands.specs.Rules.{in16, timely_by, unit_by, stands_by, under_by, content_by, packet_by, writer_by, begun_by, new_timely_by, object_by, object_in_by, due_by, reply_by, taken_by}
 use Rattle.demands.specs.Rules.{place_as, begun_output_as, reply_as, take_as}

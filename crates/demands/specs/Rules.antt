@@ -1,7 +1,7 @@
--- The rules of a release, for what going back means (the tender: "going back is also a release"): each order that Q-1, Q-2 or Q-4 moved, over the rules z of a release. At
+-- The rules of a release, for what going back means (the tender: "going back is also a release"): each order that Q-1, Q-2 or Q-4 moved, over the rules z of a release. Some
 -- `in16` it is this release's, by computation (`this-release`), at the others that of an earlier one; what is answered, written and stored is each crate's own definition over what its order says.
 -- Assumes nothing.
-use Rattle.std.specs.Prelude.{ℕ, suc, ◌+◌, Bool, true, cond, ◌&&◌, List, [], ◌∷◌, ◌++◌, eqb, leb, length, get_or, drop}
+use Rattle.std.specs.Prelude.{ℕ, suc, ◌+◌, Bool, true, cond, ◌&&◌, List, [], ◌∷◌, ◌++◌, eqb, leb, length, get_or, drop, Some, None}
 use Rattle.exchange.specs.declared.Draft.{Draft}
 use Rattle.exchange.specs.declared.Exchanges.{Exchanges}
 use Rattle.exchange.specs.declared.Replied.{Replied}
@@ -24,11 +24,9 @@ use Rattle.reply.specs.declared.Due.{Due}
 use Rattle.reply.specs.Replies.{due_as, is_due}
 use Rattle.taking.specs.declared.Role.TheVariants.{Other}
 use Rattle.taking.specs.Takes.{role_in, taken_as}
-use Rattle.unit.specs.declared.Carrier.{Carrier}
-use Rattle.unit.specs.declared.Carrier.TheVariants.{Any, By}
 use Rattle.unit.specs.Objects.{type_of, count_of, object_at}
 use Rattle.unit.specs.Places.{number_test, placed_after}
-use Rattle.unit.specs.Units.{row_of, size_tests, one_size_test, shape_by, is_kept, kept_tests, empty_tests, is_command}
+use Rattle.unit.specs.Units.{Carrier, row_of, size_tests, one_size_test, shape_by, is_kept, kept_tests, empty_tests, is_command}
 use Rattle.verdict.specs.declared.Verdict.{Verdict}
 use Rattle.verdict.specs.declared.Part.{Part}
 use Rattle.verdict.specs.Orders.{Test, ◌or_else◌, in_order, refusal, good, is_good, part_by}
@@ -81,7 +79,7 @@ unit_by z rs by u = in_order (tests_by z rs by u) good
 
 abbrev pub under_by : Rules → List Row → ℕ → List ℕ → Verdict
 under_by z rs c u =
-    in_order ((is_command c or_else COMMAND) ∷ []) (cond (is_kept c) (in_order (z.carried u) good) (unit_by z rs (By c) u))
+    in_order ((is_command c or_else COMMAND) ∷ []) (cond (is_kept c) (in_order (z.carried u) good) (unit_by z rs (Some c) u))
 
 -- "TIME of the header", of a label that is read or written
 abbrev pub head_test : Rule → Label → List Test
@@ -107,7 +105,7 @@ begun_by z rs x c out d l = in_order (begin_tests x c) (in_order (opening_tests 
 
 -- where an object stands
 abbrev pub stands_by : Rules → List Row → List ℕ → ℕ → Part
-stands_by z rs u k = placed_after (tests_by z rs Any u) (row_of rs u) u k
+stands_by z rs u k = placed_after (tests_by z rs None u) (row_of rs u) u k
 
 -- the object writer
 unfoldable pub new_timely_by : Rule → Row → Fields → Bool
@@ -116,7 +114,7 @@ new_timely_by j r f = cond (eqb r.label NONE) true (allowed (j f.label))
 abbrev pub object_by : Rules → List Row → List ℕ → ℕ → Fields → List ℕ → Verdict
 object_by z rs u k f d =
     in_order
-    ((shape_by z.sizes rs Any u ++ (number_test u k ∷ []))
+    ((shape_by z.sizes rs None u ++ (number_test u k ∷ []))
     ++ ((eqb f.kind (type_of u) && eqb (row_of rs u).text NONE or_else KIND)
     ∷ (eqb (length d) (description_size (row_of rs u)) or_else TEXT)
     ∷ record { holds = new_timely_by z.labels (row_of rs u) f; refused = refusal TIME (suc k) }

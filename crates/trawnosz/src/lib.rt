@@ -1,14 +1,13 @@
 // Every delivered call in the form that C has it, as include/trawnosz.h declares it; crate trawnosz_c exports each under its name.
 #![tactic(auto)]
 
-ghost use Rattle.std.specs.Prelude.{◌≡◌};
+ghost use Rattle.std.specs.Prelude.{◌≡◌, None};
 ghost use Rattle.octets.specs.Parts.{put_at};
 ghost use Rattle.kinds.specs.Table.{table, rows, length_for};
 ghost use Rattle.naming.specs.Names.{letters};
 ghost use Rattle.naming.specs.Fronts.{front_part};
 ghost use Rattle.unit.specs.Units.{judged_unit, judged_under};
 ghost use Rattle.unit.specs.Places.{object_place};
-ghost use Rattle.unit.specs.declared.Carrier.TheVariants.{Any};
 ghost use Rattle.typed.specs.Typing.{typed_object, description_place};
 ghost use Rattle.objects.specs.Writing.{write_verdict, written_unit};
 ghost use Rattle.objects.specs.Texts.{text_verdict, written_text};
@@ -158,7 +157,7 @@ pub extern "C" fn trawnosz_answer_to(p: &[u8], label: Label, out: &mut [u8]) -> 
 
 #[unsafe(no_mangle)]
 pub extern "C" fn trawnosz_judge_unit(u: &[u8]) -> Verdict
-    ensures { result ≡ judged_unit rows Any u.now }
+    ensures { result ≡ judged_unit rows None u.now }
 {
     unit::judge_alone(u)
 }

@@ -1,14 +1,13 @@
 // The calls that a C program links; include/trawnosz.h declares them. Each calls the library's function of its name, under the same clauses.
 #![tactic(auto)]
 
-ghost use Rattle.std.specs.Prelude.{◌≡◌};
+ghost use Rattle.std.specs.Prelude.{◌≡◌, None};
 ghost use Rattle.octets.specs.Parts.{put_at};
 ghost use Rattle.kinds.specs.Table.{table, rows, length_for};
 ghost use Rattle.naming.specs.Names.{letters};
 ghost use Rattle.naming.specs.Fronts.{front_part};
 ghost use Rattle.unit.specs.Units.{judged_unit, judged_under};
 ghost use Rattle.unit.specs.Places.{object_place};
-ghost use Rattle.unit.specs.declared.Carrier.TheVariants.{Any};
 ghost use Rattle.typed.specs.Typing.{typed_object, description_place};
 ghost use Rattle.objects.specs.Writing.{write_verdict, written_unit};
 ghost use Rattle.objects.specs.Texts.{text_verdict, written_text};
@@ -120,7 +119,7 @@ pub extern "C" fn trawnosz_answer_to(p: &[u8], label: Label, out: &mut [u8]) -> 
 
 #[unsafe(no_mangle)]
 pub extern "C" fn trawnosz_judge_unit(u: &[u8]) -> Verdict
-    ensures { result ≡ judged_unit rows Any u.now }
+    ensures { result ≡ judged_unit rows None u.now }
 {
     trawnosz::trawnosz_judge_unit(u)
 }
