@@ -2,5 +2,3 @@ pub mod Tests
 pub mod Blocks
 pub mod Plains
 pub mod Noises
-pub mod Wipes
-pub mod Spans

@@ -5,7 +5,6 @@ use native.Mathlib.Omega.{arith}
 use mathlib.Core.Bool.{Bool, true, false, not, ◌||◌, cond}
 use mathlib.Core.List.{List, [], ◌∷◌}
 use mathlib.Core.Path.{◌≡◌, refl, sym, ap, ◌∙◌}
-use borrow.Author.Rules.{rules}
 use borrow.Author.Tests.{eq-eqb, ne_eqb}
 use lib.Dec.{eqb}
 use lib.ListN.{length, get_or, take, drop, length-drop, drop_of_length-le}
@@ -115,7 +114,7 @@ module _ {s : List ℕ} {most end : ℕ} where
           run = omega (arith, noisy-at.run, noise-on s (i + r) (omega (arith, p.limit)) l e);
         }
 
-pub ruleset noises = (rules, noisy-none, noisy-end, noisy-limit, noisy-last, noisy-stop, noisy-more)
+pub ruleset noises = (noisy-none, noisy-limit, noisy-last, noisy-stop, noisy-more, noisy-within)
 
 -- whether a row begins with something other than 64
 pub others-none : (b : List ℕ) → length b ≡ 0 → starts_other b ≡ false

@@ -4,14 +4,16 @@ use native.Mathlib.Omega.{arith}
 use mathlib.Core.Bool.{Bool, true, false, not, cond, and-eq-true_iff}
 use mathlib.Core.List.{List, [], ◌∷◌}
 use mathlib.Core.Path.{◌≡◌, refl, sym, ap, ◌∙◌}
-use borrow.Author.Tests.{eqb-true, eq-eqb, not-true, not-false}
-use lib.Dec.{eqb}
-use lib.ListN.{length, get_or, take, drop, length-drop}
-use lib.Seq.{drop-cons}
+use borrow.Author.Tests.{eqb-true, eq-eqb, not-true, ltb-false}
+use lib.Dec.{eqb, ltb}
+use lib.ListN.{length, get_or, take, drop}
+use Rattle.std.specs.List.{position, position_or_len}
+use Rattle.std.specs.Option.{unwrap_or}
+use Rattle.std.specs.Prelude.{Option, Some, None}
+use Rattle.std.proofs.lemmas.List.Recursion.{is_position_or_len}
 use Rattle.octets.specs.Searches.{every}
-use Rattle.octets.proofs.Parts.{rest-is}
 use Rattle.rows.specs.Runs.{plain_run, no64}
-use Rattle.rows.proofs.Blocks.{Passed, blocks}
+use Rattle.rows.specs.Blocks.{Passed}
 
 plain-long : (xs : List ℕ) → plain_run xs ≤ length xs
 unfolding plain_run
@@ -36,34 +38,31 @@ plain-block (suc n) (x ∷ xs) h a =
     let both = (and-eq-true_iff (not (eqb x 64)) (no64 (take n xs))).0 a in
     rw (not-true (eqb x 64) both.0) (omega (arith, plain-block n xs (omega arith) both.1))
 
--- the first i of n bytes have no 64
-abbrev pub Plain : List ℕ → ℕ → ℕ → Type 0
-Plain = Passed (λ b. not (eqb b 64))
+-- what is left after bytes without a 64, and the first of it
+pub plain-left : (s rest : List ℕ) (r : ℕ) → Passed (λ b. not (eqb b 64)) s rest → r ≡ plain_run rest → length s - length rest + r ≡ plain_run s
+plain-left s rest r p e =
+    let at = length s - length rest in
+    omega (arith, e, plain-block at s (omega arith) p.pass, ap plain_run p.is)
 
-module _ {s : List ℕ} {n i : ℕ} (p : Plain s n i) where
-  run : plain_run s ≡ i + plain_run (drop i s)
-  run = plain-block i s (omega (arith, p.all, p.inside)) p.pass
+pub plain-fits : (s rest : List ℕ) (r : ℕ) → Passed (λ b. not (eqb b 64)) s rest → r ≡ plain_run rest → length s - length rest + r ≤ length s
+plain-fits s rest r p e = omega (arith, plain-left s rest r p e, plain-long s)
 
-  -- a 64 follows, or nothing does
-  pub plain-stop : i < n → not (eqb (get_or s i 0) 64) ≡ false → i ≡ plain_run s
-  unfolding plain_run
-  plain-stop h t =
-      let in-s : i < length s = omega (arith, p.all) in
-      let none : plain_run (drop i s) ≡ 0 = rw (drop-cons s i 0 in-s, not-false (eqb (get_or s i 0) 64) t) refl in
-      omega (arith, run, none)
+-- std's search for the first 64, which answers none behind the end
+plain_is : (s : List ℕ) → plain_run s ≡ position_or_len (λ b. eqb b 64) s
+unfolding plain_run
+plain_is s = is_position_or_len plain_run (λ b. eqb b 64) refl (λ x xs. by-test (eqb x 64) (plain_run xs)) s
+  where
+    by-test : (t : Bool) (n : ℕ) → cond t 0 (suc n) ≡ cond t 0 (1 + n)
+    by-test true n = refl
+    by-test false n = omega arith
 
-  pub plain_end : n ≤ i → i ≡ plain_run s
-  plain_end h = omega (arith, p.all, run, plain-long (drop i s), length-drop i s)
-
-  -- what a callee counted of the rest
-  module _ {r : ℕ} (e : r ≡ plain_run (take (length s - i) (drop i s))) where
-    pub plain-rest : i + r ≡ plain_run s
-    plain-rest = omega (arith, run, e ∙ ap plain_run (rest-is s i))
-
-    pub plain-within : i + r ≤ n
-    plain-within = omega (arith, p.all, plain-rest, plain-long s)
-
-pub ruleset plains = (blocks, plain-zero, plain-stop, plain_end, plain-rest)
+pub plain-first : (s : List ℕ) (o : Option ℕ) (r : ℕ) → o ≡ position (λ b. eqb b 64) s → r ≡ unwrap_or o (length s) → r ≡ plain_run s
+plain-first s o r e u = u ∙ ap (λ (o : Option ℕ). unwrap_or o (length s)) e ∙ by-test (ltb (position_or_len (λ b. eqb b 64) s) (length s)) refl
+  where
+    by-test : (t : Bool) → ltb (position_or_len (λ b. eqb b 64) s) (length s) ≡ t
+        → unwrap_or (cond t (Some (position_or_len (λ b. eqb b 64) s)) None) (length s) ≡ plain_run s
+    by-test true e = sym (plain_is s)
+    by-test false e = omega (arith, ltb-false (position_or_len (λ b. eqb b 64) s) (length s) e, plain_is s, plain-long s)
 
 -- as many of them as a limit lets be seen
 pub plain-take : (k : ℕ) (xs : List ℕ) → plain_run (take k xs) ≡ min k (plain_run xs)
@@ -86,3 +85,5 @@ plain-next (x ∷ xs) h = by-test (eqb x 64) refl h (plain-next xs)
         → get_or (x ∷ xs) (cond t 0 (suc (plain_run xs))) 0 ≡ 64
     by-test true e h ih = eqb-true x 64 e
     by-test false e h ih = ih (omega arith)
+
+pub ruleset plains = (plain-zero, plain-left, plain-fits, plain-first)

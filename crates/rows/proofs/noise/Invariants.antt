@@ -3,8 +3,8 @@ use Prim.Native.Nat.{◌-◌}
 use Rattle.rows.proofs.Noises.{Noisy}
 use Rattle.rows.proofs.noise.Given as goal
 
-abbrev pub invariant-loop-i : goal.invariant-loop-i
-invariant-loop-i l = Noisy l.s l.most l.end l.i
+abbrev pub invariant-loop-at : goal.invariant-loop-at
+invariant-loop-at l = Noisy l.s l.most l.end l.at
 
-abbrev pub decreases-loop-i : goal.decreases-loop-i
-decreases-loop-i l = l.end - l.i
+abbrev pub decreases-loop-at : goal.decreases-loop-at
+decreases-loop-at l = l.end - l.at
