@@ -2,3 +2,4 @@ pub mod Answers
 pub mod Kept
 pub mod Lives
 pub mod Codes
+pub mod Told
