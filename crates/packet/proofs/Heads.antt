@@ -1,18 +1,16 @@
 -- A header is read from the first 27 bytes alone, and zeros behind the end read as what is missing. Assumes nothing.
 use Prim.Native.Nat.{ℕ, zero, suc, ◌+◌, ◌≤◌, ◌<◌}
-use native.Mathlib.Nat.{le_of_lt}
 use native.Mathlib.Omega.{arith}
 use mathlib.Core.List.{List, [], ◌∷◌, ◌++◌}
 use mathlib.Core.Path.{◌≡◌, refl, sym, ap, ◌∙◌}
 use lib.Dec.{lit<}
-use lib.ListN.{length, get_or, take, drop, replicate, length-replicate}
+use lib.ListN.{length, get_or, take, drop, replicate}
 use lib.Seq.{get_or-take, get_or-drop}
 use Rattle.label.specs.Times.{label_of}
 use Rattle.label.proofs.Laws.{label_same}
 use Rattle.octets.specs.Numbers.{low_first}
-use Rattle.octets.specs.Parts.{one_by_one, put_at}
+use Rattle.octets.specs.Parts.{one_by_one}
 use Rattle.octets.proofs.Numbers.{low-two}
-use Rattle.octets.proofs.Parts.{put_is}
 use Rattle.packet.specs.declared.Header.{Header}
 use Rattle.packet.specs.Headers.{header_of}
 
@@ -45,8 +43,9 @@ header-same p q h =
         ∷ h (suc (suc (suc (suc (suc at))))) (omega arith) i
         ∷ []
 
-pub header-alone : (p : List ℕ) (n : ℕ) → n ≡ 27 → header_of (take n (drop 0 p)) ≡ header_of p
-header-alone p n e = header-same (take n p) p (λ i l. get_or-take n p i 0 (omega arith))
+-- the header h was read from the first 27 bytes x
+pub header-front : (p x : List ℕ) (h : Header) → x ≡ take 27 p → h ≡ header_of x → h ≡ header_of p
+header-front p x h e q = q ∙ ap header_of e ∙ header-same (take 27 p) p (λ i l. get_or-take 27 p i 0 l)
 
 zeros : (n i : ℕ) → get_or {A = ℕ} (replicate n 0) i 0 ≡ 0
 zeros zero zero = refl
@@ -60,13 +59,10 @@ behind [] z (suc i) h = h (suc i)
 behind (b ∷ p) z zero h = refl
 behind (b ∷ p) z (suc i) h = behind p z i h
 
-header-padded : (p : List ℕ) (n : ℕ) → length p ≤ n → header_of (put_at (replicate n 0) 0 p) ≡ header_of p
-header-padded p n l =
-    let zs : List ℕ = replicate n 0 in
-    let fits : length p ≤ length zs = omega (arith, length-replicate {A = ℕ} n 0) in
-    ap header_of (put_is zs 0 p (omega arith))
-    ∙ header-same (p ++ drop (0 + length p) zs) p (λ i m. behind p (drop (0 + length p) zs) i (λ k. get_or-drop (0 + length p) zs k 0 ∙ zeros n (0 + length p + k)))
-
--- a short packet p was put into b, and the header h read from there
-pub header-short : (p b : List ℕ) (h : Header) → length p < 27 → b ≡ put_at (replicate 27 0) 0 p → h ≡ header_of b → h ≡ header_of p
-header-short p b h l e q = q ∙ ap header_of e ∙ header-padded p 27 (le_of_lt l)
+-- a short packet p was put into the front of 27 zeros, and the header h read from there
+pub header-short : (p x : List ℕ) (h : Header) → x ≡ p → h ≡ header_of (x ++ drop (length p) (replicate 27 0)) → h ≡ header_of p
+header-short p x h b e =
+    let zs : List ℕ = drop (length p) (replicate 27 0) in
+    e
+    ∙ ap (λ (y : List ℕ). header_of (y ++ zs)) b
+    ∙ header-same (p ++ zs) p (λ i m. behind p zs i (λ k. get_or-drop (length p) (replicate 27 0) k 0 ∙ zeros 27 (length p + k)))

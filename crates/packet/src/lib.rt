@@ -1,19 +1,21 @@
-// The packet: its judge, its header by value, and its unit as a part.
+//! The packet: its judge, its header by value, and its unit as a part.
 #![tactic(auto)]
 
-ghost use Rattle.std.specs.Prelude.{◌≡◌, ◌≤◌, length};
+ghost use Rattle.std.specs.Prelude.{◌≡◌, IfOk};
+ghost use Rattle.frame.specs.Frame.{unit_length};
 ghost use Rattle.kinds.specs.Table.{rows};
-ghost use Rattle.verdict.specs.Orders.{part_in, place_in};
+ghost use Rattle.verdict.specs.Orders.{part_in, place_in, told, placed};
 ghost use Rattle.packet.specs.Frames.{judged_content, judged_packet, unit_place};
-ghost use Rattle.packet.specs.Headers.{header_of, no_header, opened_packet};
+ghost use Rattle.packet.specs.Headers.{header_of, opened_packet};
 
-use label::Label;
+use label::{Label, Shown};
 use octets::byte_at;
-use verdict::{Part, Verdict};
+use std::ops::Range;
+use verdict::{Refusal, Refused, Verdict, ensure};
 
-// A packet's fields; the addresses are kept as bytes.
+/// A packet's fields; the addresses are kept as bytes.
 #[repr(C)]
-#[derive(Clone, Copy)]
+#[derive(Clone, Copy, Debug, Default, PartialEq, Eq, Hash)]
 pub struct Header {
     pub serial: u16,
     pub version: u8,
@@ -23,9 +25,9 @@ pub struct Header {
     pub command: u8,
 }
 
-// A packet's fields, what its header's label is and its unit's length with the verdict, zeros where it is refused.
+/// A packet's fields, what its header's label is and its unit's length with the verdict, zeros where it is refused.
 #[repr(C)]
-#[derive(Clone, Copy)]
+#[derive(Clone, Copy, Debug, PartialEq, Eq, Hash)]
 pub struct Opened {
     pub verdict: Verdict,
     pub header: Header,
@@ -33,129 +35,100 @@ pub struct Opened {
     pub length: usize,
 }
 
-// VERSION, COMMAND and TIME of the header, then the unit under the command.
-pub fn judge_content(p: &[u8]) -> Verdict
-    ensures { result ≡ judged_content rows p.now }
+/// VERSION, COMMAND and TIME of the header, then the unit under the command.
+#[inline]
+#[tactic(auto, unfolding(verdict::specs::Orders::in_order, crate::specs::Frames::judged_content))]
+pub fn judge_content(p: &[u8]) -> Result<(), Refused>
+    ensures { told result ≡ judged_content rows p.now }
 {
-    if byte_at(p, 4) != 1 {
-        return Verdict::refused(verdict::VERSION, 0);
-    }
+    ensure(byte_at(p, 4) == 1, Refusal::Version)?;
     let command = byte_at(p, 26);
-    if command < 1 {
-        return Verdict::refused(verdict::COMMAND, 0);
-    }
-    if 6 < command {
-        return Verdict::refused(verdict::COMMAND, 0);
-    }
-    if !Label::read_at(p, 6).is_allowed() {
-        return Verdict::refused(verdict::TIME, 0);
-    }
-    let l = frame::unit_length(p);
-    unit::judge_under(octets::part_of(p, 27, 27 + l), command)
+    ensure((1..=6).contains(&command), Refusal::Command)?;
+    ensure(Label::read_at(p, 6).is_allowed(), Refusal::Time)?;
+    let unit = octets::part_of(p, 27, 27 + frame::unit_length(p));
+    unit::judge_under(unit, command)
 }
 
-// The judge of a packet.
-pub fn judge(p: &[u8]) -> Verdict
-    ensures { result ≡ judged_packet rows p.now }
+/// The judge of a packet, which tells its unit's length.
+#[inline]
+#[tactic(auto, using(crate::proofs::Contents::judging))]
+pub fn judge(p: &[u8]) -> Result<usize, Refused>
+    ensures verdict { told result ≡ judged_packet rows p.now }
+    ensures length { IfOk result (λ l. l ≡ unit_length p.now) }
 {
-    let v = frame::judge_frame(p);
-    if !v.is_good() {
-        return v;
-    }
-    judge_content(p)
+    let length = frame::judge_frame(p)?;
+    judge_content(p)?;
+    Ok(length)
 }
 
-// The header's fields as they stand in a packet; what is missing behind the end reads 0.
+/// The header's fields as they stand in a packet; what is missing behind the end reads 0.
 pub fn header_of(p: &[u8]) -> Header
     ensures { result ≡ header_of p.now }
 {
-    if p.len() < 27 {
-        let mut b: [u8; 27] = [0; 27];
-        octets::put(&mut b, 0, p);
-        return header_in(&b);
+    match p.first_chunk::<27>() {
+        Some(head) => header_in(head),
+        None => {
+            let mut head = [0; 27];
+            head[..p.len()].copy_from_slice(p);
+            header_in(&head)
+        }
     }
-    header_in(p)
 }
 
-// The same where nothing is missing: of a part of 27 bytes the compiler reads each without a test.
-fn header_in(p: &[u8]) -> Header
-    requires { 27 ≤ length p.now }
-    ensures { result ≡ header_of p.now }
+/// The same where nothing is missing: of 27 bytes the compiler reads each without a test.
+#[inline]
+fn header_in(head: &[u8; 27]) -> Header
+    ensures { result ≡ header_of head.now }
 {
-    let h = &p[0..27];
     Header {
-        serial: octets::two_at(h, 2),
-        version: byte_at(h, 5),
-        label: Label::read_at(h, 6),
-        source: octets::six_at(h, 12),
-        destination: octets::six_at(h, 18),
-        command: byte_at(h, 26),
+        serial: octets::two_at(head, 2),
+        version: head[5],
+        label: Label::read_at(head, 6),
+        source: octets::six_at(head, 12),
+        destination: octets::six_at(head, 18),
+        command: head[26],
     }
 }
 
-// A packet's fields, L and the verdict.
+/// A packet's fields, L and the verdict.
+#[tactic(auto, using(crate::proofs::Opening::opened), unfolding(crate::specs::Headers::opened_packet))]
 pub fn read(p: &[u8]) -> Opened
     ensures { result ≡ opened_packet rows p.now }
 {
-    let verdict = judge(p);
-    if !verdict.is_good() {
+    let judged = judge(p);
+    let Ok(length) = judged else {
         return Opened {
-            verdict,
-            header: no_header(),
-            shown: label::SHOWN_NOTHING,
+            verdict: judged.into(),
+            header: Header::default(),
+            shown: Shown::Nothing.number(),
             length: 0,
         };
-    }
+    };
     let header = header_of(p);
-    let label = header.label;
     Opened {
-        verdict,
+        verdict: judged.into(),
         header,
-        shown: label.shown(),
-        length: frame::unit_length(p),
+        shown: header.label.shown().number(),
+        length,
     }
 }
 
-fn no_header() -> Header
-    ensures { result ≡ no_header }
+/// Where a packet's unit stands.
+#[tactic(auto, using(crate::proofs::Opening::standing))]
+pub fn unit_place(p: &[u8]) -> Result<Range<usize>, Refused>
+    ensures { placed result ≡ unit_place rows p.now }
 {
-    Header {
-        serial: 0,
-        version: 0,
-        label: Label {
-            second: 0,
-            minute: 0,
-            hour: 0,
-            day: 0,
-            month: 0,
-            year: 0,
-        },
-        source: [0; 6],
-        destination: [0; 6],
-        command: 0,
-    }
+    let length = judge(p)?;
+    Ok(27..27 + length)
 }
 
-// Where a packet's unit stands.
-pub fn unit_place(p: &[u8]) -> Part
-    ensures { result ≡ unit_place rows p.now }
-{
-    let verdict = judge(p);
-    if !verdict.is_good() {
-        return Part::refused(verdict);
-    }
-    Part {
-        verdict,
-        from: 27,
-        to: 27 + frame::unit_length(p),
-    }
-}
-
-// A packet's unit as that part of the caller's own bytes.
+/// A packet's unit as that part of the caller's own bytes, empty where it is refused.
 pub fn unit_of(p: &[u8]) -> &[u8]
     ensures result_value { result.now ≡ part_in p.now (unit_place rows p.now) }
     ensures ref_ptr_value { result.ref_ptr ≡ place_in p.entry.ref_ptr p.now (unit_place rows p.now) }
 {
-    let q = unit_place(p);
-    octets::part_of(p, q.from, q.to)
+    match unit_place(p) {
+        Ok(place) => octets::part_of(p, place.start, place.end),
+        Err(_) => octets::part_of(p, 0, 0),
+    }
 }
