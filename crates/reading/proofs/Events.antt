@@ -1,14 +1,16 @@
--- What the reading finds is never a refusal; and what an event's number then says. Assumes nothing.
+-- What the reading finds is never a refusal, nor is an event in code; and what an event's number then says. Assumes nothing.
 use Prim.Native.Nat.{ℕ, suc}
 use native.Mathlib.Omega.{arith}
 use mathlib.Core.Bool.{Bool, true, false, cond}
 use mathlib.Core.List.{List, [], ◌∷◌}
-use mathlib.Core.Path.{◌≡◌, refl}
+use mathlib.Core.Path.{◌≡◌, refl, sym, ap, ◌∙◌}
 use lib.Dec.{leb, eqb}
 use lib.ListN.{length, get_or}
 use Rattle.frame.specs.Frame.{packet_length, unit_length, ended, summed}
 use Rattle.verdict.specs.Refusals.{STATE, ROOM}
-use Rattle.reading.specs.Events.{Event, Standing}
+use Rattle.reading.specs.declared.Event.{Event as Coded}
+use Rattle.reading.specs.declared.Event.TheVariants as coded
+use Rattle.reading.specs.Events.{Event, Standing, event_of}
 use Rattle.reading.specs.Events.Event.{More, Noise, Length, End, Sum, Packet, Refused}
 use Rattle.reading.specs.Events.Standing.{Wait, Skip, Hit}
 use Rattle.reading.specs.Values.{MORE, told, asks}
@@ -84,3 +86,33 @@ number-taken End h = ((λ k. omega arith), λ k. omega arith)
 number-taken Sum h = ((λ k. omega arith), λ k. omega arith)
 number-taken (Packet n) h = ((λ k. omega arith), λ k. omega arith)
 number-taken (Refused n) h = absurd (h n refl)
+
+-- the code's events are never a refusal, and no two of them are one event
+pub event-taken : (e : Coded) → refuses (event_of e) ≡ false
+unfolding refuses
+event-taken coded.More = refl
+event-taken coded.Noise = refl
+event-taken coded.Length = refl
+event-taken coded.End = refl
+event-taken coded.Sum = refl
+event-taken (coded.Packet n) = refl
+
+abbrev coded_as : Event → Coded
+coded_as More = coded.More
+coded_as Noise = coded.Noise
+coded_as Length = coded.Length
+coded_as End = coded.End
+coded_as Sum = coded.Sum
+coded_as (Packet n) = coded.Packet n
+coded_as (Refused n) = coded.More
+
+coded-back : (e : Coded) → coded_as (event_of e) ≡ e
+coded-back coded.More = refl
+coded-back coded.Noise = refl
+coded-back coded.Length = refl
+coded-back coded.End = refl
+coded-back coded.Sum = refl
+coded-back (coded.Packet n) = refl
+
+pub event-tells : (e f : Coded) → event_of e ≡ event_of f → e ≡ f
+event-tells e f h = sym (coded-back e) ∙ ap coded_as h ∙ coded-back f

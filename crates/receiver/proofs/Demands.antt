@@ -4,10 +4,18 @@ use Prim.Native.Nat.{ℕ, ◌≤◌}
 use contract.Lifetimes.{Lfts}
 use denote.MutBor.{MutBor}
 use denote.Ref.{Bor}
+use mathlib.Core.Bool.{false, true≢false}
 use mathlib.Core.List.{List}
 use mathlib.Core.Path.{◌≡◌, sym, ap, subst, ◌∙◌}
 use lib.ListN.{length}
+use Rattle.std.specs.Prelude.{Result, Ok, Err, IfErr}
+use Rattle.verdict.specs.declared.Refused.{Refused}
+use Rattle.verdict.specs.Refusals.{number_of}
+use Rattle.verdict.proofs.Told.{number-tells}
+use Rattle.reading.specs.Events.{Event, event_of}
+use Rattle.reading.specs.Events.Event.{More, Noise, Length, End, Sum, Packet, Refused as Refuses}
 use Rattle.frame.specs.Frame.{room}
+use Rattle.reading.proofs.Events.{refuses, event-taken, event-tells}
 use Rattle.reading.specs.Finding.{reading}
 use Rattle.reading.specs.Calls.{State, Answer, called}
 use Rattle.reading.specs.Offers.{joined}
@@ -15,24 +23,64 @@ use Rattle.reading.proofs.Call.{Good}
 use Rattle.reading.proofs.Demand.{GoesOn, call-on}
 use Rattle.reading.proofs.Runs.{CutAnywhere, Whole, calls_of, whole-receiver}
 use Rattle.receiver.specs.declared.Receiver.{Receiver}
-use Rattle.receiver.specs.declared.Received.{Received}
-use Rattle.receiver.specs.declared.Served.{Served}
-use Rattle.receiver.specs.Receivers.{lent, given, receiver_of}
+use Rattle.receiver.specs.declared.Received.{Received as CodedReceived}
+use Rattle.receiver.specs.declared.Served.{Served as CodedServed}
+use Rattle.receiver.specs.Receivers.{Received, Served, lent, given, receiver_of, received_by, served_by}
 use Rattle.receiver.proofs.Receiver.fresh.Reads as made
 use Rattle.receiver.proofs.Receiver.receive.Reads as receive
 use Rattle.receiver.proofs.receive_lent.Reads as receive-lent
 use Rattle.receiver.proofs.clear_lent.Reads as clear-lent
 
-pub receive-determined : (κs : Lfts 2) (x : Receiver) (piece : Bor (List ℕ)) (out o p : MutBor (List ℕ)) (r s : Received)
+abbrev number_in : Event → ℕ
+number_in More = 0
+number_in Noise = 0
+number_in Length = 0
+number_in End = 0
+number_in Sum = 0
+number_in (Packet n) = 0
+number_in (Refuses n) = n
+
+-- a refusal at place 0 is told by its number, and an event by its name
+refusal-told : (e f : Refused) → number_of e.refusal ≡ number_of f.refusal → e.place ≡ 0 → f.place ≡ 0 → e ≡ f
+refusal-told e f n p q =
+    let refusal = number-tells e.refusal f.refusal n in
+    let place = p ∙ sym q in
+    λ i. record { refusal = refusal i; place = place i }
+
+no-refusal : (e : Event) (n : ℕ) → refuses e ≡ false → e ≡ Refuses n → ⊥
+unfolding refuses
+no-refusal e n h q = true≢false (sym (ap refuses q) ∙ h)
+
+-- so no two answers in code are the same answer
+received-tells : (st : State) (r s : Result CodedReceived Refused) → received_by st r ≡ received_by st s → IfErr r (λ e. e.place ≡ 0)
+    → IfErr s (λ e. e.place ≡ 0) → r ≡ s
+received-tells st (Ok a) (Ok b) h p q =
+    let event = event-tells a.event b.event (ap (λ (x : Received). x.event) h) in
+    λ i. Ok record { event = event i; skipped = (h i).skipped; taken = (h i).taken; state = (h i).state }
+received-tells st (Ok a) (Err f) h p q = absurd (no-refusal (event_of a.event) _ (event-taken a.event) (ap (λ (x : Received). x.event) h))
+received-tells st (Err e) (Ok b) h p q = absurd (no-refusal (event_of b.event) _ (event-taken b.event) (ap (λ (x : Received). x.event) (sym h)))
+received-tells st (Err e) (Err f) h p q = ap (λ (x : Refused). Err x) (refusal-told e f (ap number_in (ap (λ (x : Received). x.event) h)) p q)
+
+served-tells : (held skipped : ℕ) (r s : Result CodedServed Refused) → served_by held skipped r ≡ served_by held skipped s → IfErr r (λ e. e.place ≡ 0)
+    → IfErr s (λ e. e.place ≡ 0) → r ≡ s
+served-tells held skipped (Ok a) (Ok b) h p q =
+    let event = event-tells a.event b.event (ap (λ (x : Served). x.event) h) in
+    λ i. Ok record { event = event i; skipped = (h i).skipped; taken = (h i).taken; held = (h i).held; count = (h i).count }
+served-tells held skipped (Ok a) (Err f) h p q = absurd (no-refusal (event_of a.event) _ (event-taken a.event) (ap (λ (x : Served). x.event) h))
+served-tells held skipped (Err e) (Ok b) h p q = absurd (no-refusal (event_of b.event) _ (event-taken b.event) (ap (λ (x : Served). x.event) (sym h)))
+served-tells held skipped (Err e) (Err f) h p q = ap (λ (x : Refused). Err x) (refusal-told e f (ap number_in (ap (λ (x : Served). x.event) h)) p q)
+
+pub receive-determined : (κs : Lfts 2) (x : Receiver) (piece : Bor (List ℕ)) (out o p : MutBor (List ℕ)) (r s : Result CodedReceived Refused)
     → receive.Post κs (x, (piece, (out, tt))) r (x, (piece, (o, tt))) → receive.Post κs (x, (piece, (out, tt))) s (x, (piece, (p, tt)))
     → (r ≡ s) × (o.now ≡ p.now)
-receive-determined κs x piece out o p r s a b = (a.0 ∙ sym b.0, a.1 ∙ sym b.1)
+receive-determined κs x piece out o p r s a b = (received-tells (given x) r s (a.0 ∙ sym b.0) a.1.0 b.1.0, a.1.1 ∙ sym b.1.1)
 
-pub lent-determined : (κs : Lfts 3) (hold h k : MutBor (List ℕ)) (held skipped : ℕ) (piece : Bor (List ℕ)) (out o p : MutBor (List ℕ)) (r s : Served)
-    → receive-lent.Post κs (hold, (held, (skipped, (piece, (out, tt))))) r (h, (held, (skipped, (piece, (o, tt)))))
+pub lent-determined : (κs : Lfts 3) (hold h k : MutBor (List ℕ)) (held skipped : ℕ) (piece : Bor (List ℕ)) (out o p : MutBor (List ℕ))
+    (r s : Result CodedServed Refused) → receive-lent.Post κs (hold, (held, (skipped, (piece, (out, tt))))) r (h, (held, (skipped, (piece, (o, tt)))))
     → receive-lent.Post κs (hold, (held, (skipped, (piece, (out, tt))))) s (k, (held, (skipped, (piece, (p, tt)))))
     → (r ≡ s) × (h.now ≡ k.now) × (o.now ≡ p.now)
-lent-determined κs hold h k held skipped piece out o p r s a b = (a.0 ∙ sym b.0, a.1.0 ∙ sym b.1.0, a.1.1 ∙ sym b.1.1)
+lent-determined κs hold h k held skipped piece out o p r s a b =
+    (served-tells held skipped r s (a.0 ∙ sym b.0) a.1.0 b.1.0, a.1.1.0 ∙ sym b.1.1.0, a.1.1.1 ∙ sym b.1.1.1)
 
 pub clear-determined : (κs : Lfts 1) (hold h k : MutBor (List ℕ)) (r s : _) → clear-lent.Post κs (hold, tt) r (h, tt) → clear-lent.Post κs (hold, tt) s (k, tt) → h.now ≡ k.now
 clear-determined κs hold h k r s a b = a ∙ sym b
@@ -52,7 +100,7 @@ pub record Holding : Type 0 where
 
 -- BY VALUE: an answer of `receive` and a buffer at exit that meet its contract
 pub record Answered (κs : Lfts 2) (x : Receiver) (piece : Bor (List ℕ)) (out : MutBor (List ℕ)) : Type 0 where
-  pub answer : Received
+  pub answer : Result CodedReceived Refused
   pub left : MutBor (List ℕ)
   pub meets : receive.Post κs (x, (piece, (out, tt))) answer (x, (piece, (left, tt)))
 
@@ -65,14 +113,16 @@ Answers = (i : ℕ) (κs : Lfts 2) (x : Receiver) (piece : Bor (List ℕ)) (out 
 abbrev pub answer_of : Received → List ℕ → Answer
 answer_of r out = record { event = r.event; skipped = r.skipped; taken = r.taken; state = given r.state; out = out }
 
-answer-is : (κs : Lfts 2) (x : Receiver) (piece : Bor (List ℕ)) (out o : MutBor (List ℕ)) (r : Received) → receive.Post κs (x, (piece, (out, tt))) r (x, (piece, (o, tt)))
-    → answer_of r o.now ≡ called 1024 (given x) piece.now out.now
+answer-is : (κs : Lfts 2) (x : Receiver) (piece : Bor (List ℕ)) (out o : MutBor (List ℕ)) (r : Result CodedReceived Refused)
+    → receive.Post κs (x, (piece, (out, tt))) r (x, (piece, (o, tt)))
+    → answer_of (received_by (given x) r) o.now ≡ called 1024 (given x) piece.now out.now
 answer-is κs x piece out o r p =
-    λ n. record { event = (p.0 n).event; skipped = (p.0 n).skipped; taken = (p.0 n).taken; state = given (p.0 n).state; out = p.1 n }
+    λ n. record { event = (p.0 n).event; skipped = (p.0 n).skipped; taken = (p.0 n).taken; state = given (p.0 n).state; out = p.1.1 n }
 
 -- from a state that keeps the rules, with a buffer of 1,054 bytes or more, no call is refused, and one that gives an event leaves fewer bytes held and offered
-pub receive-on : (κs : Lfts 2) (x : Receiver) (piece : Bor (List ℕ)) (out o : MutBor (List ℕ)) (r : Received) → Good 1024 (given x) → 1054 ≤ length out.now
-    → receive.Post κs (x, (piece, (out, tt))) r (x, (piece, (o, tt))) → GoesOn 1024 (given x) piece.now (answer_of r o.now)
+pub receive-on : (κs : Lfts 2) (x : Receiver) (piece : Bor (List ℕ)) (out o : MutBor (List ℕ)) (r : Result CodedReceived Refused) → Good 1024 (given x)
+    → 1054 ≤ length out.now → receive.Post κs (x, (piece, (out, tt))) r (x, (piece, (o, tt)))
+    → GoesOn 1024 (given x) piece.now (answer_of (received_by (given x) r) o.now)
 unfolding room
 receive-on κs x piece out o r g h p =
     subst (GoesOn 1024 (given x) piece.now) (sym (answer-is κs x piece out o r p)) (call-on 1024 (given x) piece.now out.now g h)
@@ -85,7 +135,7 @@ answering box by i st piece g = box i (by.lifetimes i) (receiver_of st) (by.piec
 abbrev pub valued : Answers → Lending 2 → Whole 1024
 valued box by i st piece g =
     let a = answering box by i st piece g in
-    answer_of a.answer a.left.now
+    answer_of (received_by st a.answer) a.left.now
 
 -- DEMAND 3, of every receiver that meets `receive`'s contract, from what `fresh` makes
 pub demand-3 : (box : Answers) (by : Lending 2) (x : Receiver) → made.Post tt tt x tt → (pieces : List (List ℕ))
@@ -131,22 +181,22 @@ serving Post box in-hold by i st piece g =
 abbrev pub served_in : Served → List ℕ → List ℕ → Answer
 served_in r hold out = record { event = r.event; skipped = r.skipped; taken = r.taken; state = lent hold r.held r.count; out = out }
 
-served-is : (κs : Lfts 3) (hold h : MutBor (List ℕ)) (held skipped : ℕ) (piece : Bor (List ℕ)) (out o : MutBor (List ℕ)) (r : Served)
+served-is : (κs : Lfts 3) (hold h : MutBor (List ℕ)) (held skipped : ℕ) (piece : Bor (List ℕ)) (out o : MutBor (List ℕ)) (r : Result CodedServed Refused)
     → receive-lent.Post κs (hold, (held, (skipped, (piece, (out, tt))))) r (h, (held, (skipped, (piece, (o, tt)))))
-    → served_in r h.now o.now ≡ called 1024 (lent hold.now held skipped) piece.now out.now
+    → served_in (served_by held skipped r) h.now o.now ≡ called 1024 (lent hold.now held skipped) piece.now out.now
 served-is κs hold h held skipped piece out o r p =
     λ n. record {
       event = (p.0 n).event;
       skipped = (p.0 n).skipped;
       taken = (p.0 n).taken;
-      state = lent (p.1.0 n) (p.0 n).held (p.0 n).count;
-      out = p.1.1 n;
+      state = lent (p.1.1.0 n) (p.0 n).held (p.0 n).count;
+      out = p.1.1.1 n;
     }
 
-pub lent-on : (κs : Lfts 3) (hold h : MutBor (List ℕ)) (held skipped : ℕ) (piece : Bor (List ℕ)) (out o : MutBor (List ℕ)) (r : Served)
+pub lent-on : (κs : Lfts 3) (hold h : MutBor (List ℕ)) (held skipped : ℕ) (piece : Bor (List ℕ)) (out o : MutBor (List ℕ)) (r : Result CodedServed Refused)
     → Good 1024 (lent hold.now held skipped) → 1054 ≤ length out.now
     → receive-lent.Post κs (hold, (held, (skipped, (piece, (out, tt))))) r (h, (held, (skipped, (piece, (o, tt)))))
-    → GoesOn 1024 (lent hold.now held skipped) piece.now (served_in r h.now o.now)
+    → GoesOn 1024 (lent hold.now held skipped) piece.now (served_in (served_by held skipped r) h.now o.now)
 unfolding room
 lent-on κs hold h held skipped piece out o r g room-there p =
     subst (GoesOn 1024 (lent hold.now held skipped) piece.now) (sym (served-is κs hold h held skipped piece out o r p))
@@ -156,7 +206,7 @@ lent-on κs hold h held skipped piece out o r g room-there p =
 abbrev pub served : Serves receive-lent.Post → Holding → Lending 3 → Whole 1024
 served box in-hold by i st piece g =
     let a = serving receive-lent.Post box in-hold by i st piece g in
-    served_in a.answer a.kept.now a.left.now
+    served_in (served_by st.held st.skipped a.answer) a.kept.now a.left.now
 
 -- DEMAND 3, of every receiver that meets `receive_lent`'s contract, from the hold that `clear_lent` makes
 pub demand-3-lent : (box : Serves receive-lent.Post) (in-hold : Holding) (by : Lending 3) (κs : Lfts 1) (row hold : MutBor (List ℕ)) (r : _) → clear-lent.Post κs (row, tt) r (hold, tt)

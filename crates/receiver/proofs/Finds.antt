@@ -1,23 +1,21 @@
--- What is found first, after a run of noise. Assumes nothing.
+-- What is found first, behind a run of noise. Assumes nothing.
 use Prim.Native.Nat.{ℕ, zero, suc, ◌+◌, ◌-◌, ◌≤◌, ◌<◌, min}
 use native.Mathlib.Omega.{arith}
-use mathlib.Core.Bool.{Bool, true, false, not, ◌&&◌, ◌||◌, cond, and-eq-true_iff, true≢false, false≢true}
-use mathlib.Core.List.{List, [], ◌∷◌, ◌++◌, append-nil}
+use mathlib.Core.Bool.{Bool, true, false, not, ◌||◌, cond, true≢false, false≢true}
+use mathlib.Core.List.{List, [], ◌∷◌}
 use mathlib.Core.Logic.{◌⊎◌, inl, inr, ⊎_elim}
 use mathlib.Core.Path.{◌≡◌, refl, sym, ap, ◌∙◌}
-use borrow.Author.Tests.{eqb-true, eq-eqb, ne_eqb, ltb-true, ltb-false, le-leb, not-true, not-false}
+use borrow.Author.Tests.{eq-eqb, ne_eqb, ltb-true, ltb-false, le-leb, not-true, not-false}
 use lib.Dec.{leb, ltb, eqb}
-use lib.ListN.{length, get_or, drop, length-drop, drop_of_length-le}
-use Rattle.reading.specs.declared.Standing.{Standing}
-use Rattle.reading.specs.declared.Standing.TheVariants.{Wait, Skip, Hit}
-use Rattle.reading.specs.declared.Step.{Step}
+use lib.ListN.{length, get_or, drop}
+use Rattle.reading.specs.Events.{Standing, Step}
+use Rattle.reading.specs.Events.Standing.{Wait, Skip, Hit}
 use Rattle.frame.specs.Frame.{unit_length, ended, summed}
 use Rattle.reading.specs.Standing.{when_there, judged_frame, started, stands}
 use Rattle.reading.specs.Finding.{noise_at, onward, noise, found, first}
 use Rattle.reading.proofs.Stands.{nothing-waits, not_there}
 use Rattle.rows.specs.Runs.{starts_other, noise_run}
-use Rattle.rows.proofs.Noises.{noise-long}
-use Rattle.receiver.specs.Runs.{crossing, ahead, settled}
+use Rattle.receiver.specs.Runs.{ahead, settled}
 
 ahead-zero : (f : Step) → ahead 0 f ≡ f
 unfolding ahead
@@ -33,22 +31,6 @@ ahead-onward n f =
     let p : suc (n + f.at) ≡ suc n + f.at = omega arith in
     let q : suc (n + f.looked) ≡ suc n + f.looked = omega arith in
     let r : suc (n + f.next) ≡ suc n + f.next = omega arith in
-    λ i. record { event = f.event; carried = f.carried; at = p i; looked = q i; next = r i; count = f.count }
-
-ahead-on : (n : ℕ) (f : Step) → ahead n (onward f) ≡ ahead (suc n) f
-unfolding ahead onward
-ahead-on n f =
-    let p : n + suc f.at ≡ suc n + f.at = omega arith in
-    let q : n + suc f.looked ≡ suc n + f.looked = omega arith in
-    let r : n + suc f.next ≡ suc n + f.next = omega arith in
-    λ i. record { event = f.event; carried = f.carried; at = p i; looked = q i; next = r i; count = f.count }
-
-ahead-ahead : (m n : ℕ) (f : Step) → ahead m (ahead n f) ≡ ahead (m + n) f
-unfolding ahead
-ahead-ahead m n f =
-    let p : m + (n + f.at) ≡ m + n + f.at = omega arith in
-    let q : m + (n + f.looked) ≡ m + n + f.looked = omega arith in
-    let r : m + (n + f.next) ≡ m + n + f.next = omega arith in
     λ i. record { event = f.event; carried = f.carried; at = p i; looked = q i; next = r i; count = f.count }
 
 -- a skip
@@ -94,21 +76,21 @@ first-settled M c (x ∷ xs) w = by-case (stands M (x ∷ xs)) w
     by-case (Hit e k p) w = refl
 
 -- a byte of noise is skipped
-skips : (M x : ℕ) (xs ys : List ℕ) → not (eqb x 64) || starts_other xs ≡ true → (k : ℕ) × (stands M (x ∷ xs ++ ys) ≡ Skip k)
+skips : (M x : ℕ) (xs : List ℕ) → not (eqb x 64) || starts_other xs ≡ true → (k : ℕ) × (stands M (x ∷ xs) ≡ Skip k)
 unfolding stands when_there
-skips M x xs ys o = by-test (eqb x 64) refl o
+skips M x xs o = by-test (eqb x 64) refl o
   where
-    one : leb 1 (suc (length (xs ++ ys))) ≡ true
-    one = le-leb 1 (suc (length (xs ++ ys))) (omega arith)
+    one : leb 1 (suc (length xs)) ≡ true
+    one = le-leb 1 (suc (length xs)) (omega arith)
 
-    by_next : (zs : List ℕ) → starts_other zs ≡ true → eqb x 64 ≡ true → stands M (x ∷ zs ++ ys) ≡ Skip 2
+    by_next : (zs : List ℕ) → starts_other zs ≡ true → eqb x 64 ≡ true → stands M (x ∷ zs) ≡ Skip 2
     by_next [] o e = absurd (false≢true o)
     by_next (z ∷ zs) o e =
-        let here : leb 1 (suc (suc (length (zs ++ ys)))) ≡ true = le-leb 1 (suc (suc (length (zs ++ ys)))) (omega arith) in
-        let two : leb 2 (suc (suc (length (zs ++ ys)))) ≡ true = le-leb 2 (suc (suc (length (zs ++ ys)))) (omega arith) in
+        let here : leb 1 (suc (suc (length zs))) ≡ true = le-leb 1 (suc (suc (length zs))) (omega arith) in
+        let two : leb 2 (suc (suc (length zs))) ≡ true = le-leb 2 (suc (suc (length zs))) (omega arith) in
         rw (here, e, two, not-true (eqb z 64) o) refl
 
-    by-test : (t : Bool) → eqb x 64 ≡ t → not t || starts_other xs ≡ true → (k : ℕ) × (stands M (x ∷ xs ++ ys) ≡ Skip k)
+    by-test : (t : Bool) → eqb x 64 ≡ t → not t || starts_other xs ≡ true → (k : ℕ) × (stands M (x ∷ xs) ≡ Skip k)
     by-test true e o = (2, by_next xs o e)
     by-test false e o = (1, rw (one, e) refl)
 
@@ -118,28 +100,28 @@ unfolding first found
 first-skip M s x xs k e h = rw (e, ne_eqb (suc s) noise_at (λ q. omega arith)) refl
 
 -- a run of noise is skipped
-first_run : (M s n : ℕ) (a b : List ℕ) → n ≤ noise_run a → s + n < noise_at → first M s (a ++ b) ≡ ahead n (first M (s + n) (drop n a ++ b))
+first_run : (M s n : ℕ) (a : List ℕ) → n ≤ noise_run a → s + n < noise_at → first M s a ≡ ahead n (first M (s + n) (drop n a))
 unfolding noise_run
-first_run M s zero a b h k =
+first_run M s zero a h k =
     let same : s + 0 ≡ s = omega arith in
-    sym (ahead-zero (first M (s + 0) (a ++ b)) ∙ ap (λ (t : ℕ). first M t (a ++ b)) same)
-first_run M s (suc n) [] b h k = absurd (omega arith)
-first_run M s (suc n) (x ∷ a) b h k = by-test (not (eqb x 64) || starts_other a) refl h (first_run M (suc s) n a b)
+    sym (ahead-zero (first M (s + 0) a) ∙ ap (λ (t : ℕ). first M t a) same)
+first_run M s (suc n) [] h k = absurd (omega arith)
+first_run M s (suc n) (x ∷ a) h k = by-test (not (eqb x 64) || starts_other a) refl h (first_run M (suc s) n a)
   where
     by-test : (t : Bool) → not (eqb x 64) || starts_other a ≡ t → suc n ≤ cond t (suc (noise_run a)) 0
-        → (n ≤ noise_run a → suc s + n < noise_at → first M (suc s) (a ++ b) ≡ ahead n (first M (suc s + n) (drop n a ++ b)))
-        → first M s (x ∷ a ++ b) ≡ ahead (suc n) (first M (s + suc n) (drop n a ++ b))
+        → (n ≤ noise_run a → suc s + n < noise_at → first M (suc s) a ≡ ahead n (first M (suc s + n) (drop n a)))
+        → first M s (x ∷ a) ≡ ahead (suc n) (first M (s + suc n) (drop n a))
     by-test true e h ih =
-        let skip = skips M x a b e in
+        let skip = skips M x a e in
         let same : suc s + n ≡ s + suc n = omega arith in
-        first-skip M s x (a ++ b) skip.0 skip.1 (omega arith)
+        first-skip M s x a skip.0 skip.1 (omega arith)
         ∙ ap onward (ih (omega arith) (omega arith))
-        ∙ ahead-onward n (first M (suc s + n) (drop n a ++ b))
-        ∙ ap (λ (t : ℕ). ahead (suc n) (first M t (drop n a ++ b))) same
+        ∙ ahead-onward n (first M (suc s + n) (drop n a))
+        ∙ ap (λ (t : ℕ). ahead (suc n) (first M t (drop n a))) same
     by-test false e h ih = absurd (omega arith)
 
 -- the run that is left behind a part of it
-run-left : (n : ℕ) (a : List ℕ) → n ≤ noise_run a → noise_run a ≡ n + noise_run (drop n a)
+pub run-left : (n : ℕ) (a : List ℕ) → n ≤ noise_run a → noise_run a ≡ n + noise_run (drop n a)
 unfolding noise_run
 run-left zero a h = omega arith
 run-left (suc n) [] h = absurd (omega arith)
@@ -151,7 +133,7 @@ run-left (suc n) (x ∷ a) h = by-test (not (eqb x 64) || starts_other a) h (run
     by-test false h ih = absurd (omega arith)
 
 -- a first byte that is no noise is a 64, and so is the second where it is there
-no-noise : (x : ℕ) (xs : List ℕ) → noise_run (x ∷ xs) ≡ 0 → (eqb x 64 ≡ true) × (starts_other xs ≡ false)
+pub no-noise : (x : ℕ) (xs : List ℕ) → noise_run (x ∷ xs) ≡ 0 → (eqb x 64 ≡ true) × (starts_other xs ≡ false)
 unfolding noise_run
 no-noise x xs e = by-test (eqb x 64) refl (starts_other xs) refl e
   where
@@ -177,83 +159,17 @@ marked-calm M x (y ∷ ys) e o =
     (there-calm 2 (x ∷ y ∷ ys) (cond (eqb y 64) (started M (x ∷ y ∷ ys)) (Skip 2))
     (ap (λ (t : Bool). is_skip (cond t (started M (x ∷ y ∷ ys)) (Skip 2))) (not-false (eqb y 64) o) ∙ started-calm M (x ∷ y ∷ ys)))
 
--- behind the run nothing is skipped, unless the last byte is by what follows
-module _ (M s n : ℕ) (a b : List ℕ) (low : s ≤ 65534) (run : n ≡ min (65534 - s) (noise_run a)) where
-  here-calm : (xs : List ℕ) → noise_run xs ≡ 0 → (length xs ≡ 0 → b ≡ []) → (length xs ≡ 1 → starts_other b ≡ false) → is_skip (stands M (xs ++ b)) ≡ false
-  here-calm [] z none one = ap (λ (ys : List ℕ). is_skip (stands M ys)) (none refl) ∙ ap is_skip (nothing-waits M)
-  here-calm (x ∷ []) z none one = marked-calm M x b (no-noise x [] z).0 (one refl)
-  here-calm (x ∷ y ∷ xs) z none one = marked-calm M x (y ∷ xs ++ b) (no-noise x (y ∷ xs) z).0 (no-noise x (y ∷ xs) z).1
-
-  pub first-here : (n ≡ length a → b ≡ []) → crossing (length a - n) b (s + n) ≡ false
-      → first M s (a ++ b) ≡ ahead n (settled (stands M (drop n a ++ b)) (s + n) (length (drop n a ++ b)))
-  unfolding crossing
-  first-here none c =
-      first_run M s n a b (omega arith) (omega arith)
-      ∙ ap (ahead n) (first-settled M (s + n) (drop n a ++ b) (by_count (ltb (s + n) 65534) refl))
-    where
-      size : length (drop n a) ≡ length a - n
-      size = length-drop n a
-
-      left : noise_run a ≡ n + noise_run (drop n a)
-      left = run-left n a (omega arith)
-
-      by_count : (t : Bool) → ltb (s + n) 65534 ≡ t → (is_skip (stands M (drop n a ++ b)) ≡ false) ⊎ (suc (s + n) ≡ noise_at)
-      by_count true e =
-          let lower : s + n < 65534 = ltb-true (s + n) 65534 e in
-          inl (here-calm (drop n a) (omega (arith, left))
-          (λ z. none (omega (arith, size, noise-long a)))
-          (λ z. let one : length a - n ≡ 1 = omega (arith, size) in simp (eq-eqb (length a - n) 1 one, e) at c))
-      by_count false e = inr (omega (arith, ltb-false (s + n) 65534 e))
-
-  -- the last byte is skipped by what follows
-  pub first-crossing : crossing (length a - n) b (s + n) ≡ true → first M s (a ++ b) ≡ ahead (suc n) (first M (suc (s + n)) b)
-  unfolding crossing
-  first-crossing c =
-      first_run M s n a b (omega arith) (omega arith)
-      ∙ ap (ahead n) (by-rest (drop n a) (omega (arith, length-drop n a, one)) (omega (arith, run-left n a (omega arith), lower)))
-      ∙ ahead-on n (first M (suc (s + n)) b)
-    where
-      both : (eqb (length a - n) 1 && ltb (s + n) 65534 ≡ true) × (starts_other b ≡ true)
-      both = (and-eq-true_iff (eqb (length a - n) 1 && ltb (s + n) 65534) (starts_other b)).0 c
-
-      tests : (eqb (length a - n) 1 ≡ true) × (ltb (s + n) 65534 ≡ true)
-      tests = (and-eq-true_iff (eqb (length a - n) 1) (ltb (s + n) 65534)).0 both.0
-
-      one : length a - n ≡ 1
-      one = eqb-true (length a - n) 1 tests.0
-
-      lower : s + n < 65534
-      lower = ltb-true (s + n) 65534 tests.1
-
-      by-rest : (xs : List ℕ) → length xs ≡ 1 → noise_run xs ≡ 0 → first M (s + n) (xs ++ b) ≡ onward (first M (suc (s + n)) b)
-      by-rest [] l z = absurd (omega arith)
-      by-rest (x ∷ []) l z =
-          let noisy : not (eqb x 64) || starts_other b ≡ true = simp (no-noise x [] z).0 both.1 in
-          let skip = skips M x b [] noisy in
-          first-skip M (s + n) x b skip.0 (ap (λ (ys : List ℕ). stands M (x ∷ ys)) (sym (append-nil b)) ∙ skip.1) (omega (arith, lower))
-      by-rest (x ∷ y ∷ xs) l z = absurd (omega arith)
-
-  -- all of the first row is noise
-  pub first-all : n ≡ length a → first M s (a ++ b) ≡ ahead n (first M (s + n) b)
-  first-all e =
-      let past : length a ≤ n = omega arith in
-      first_run M s n a b (omega arith) (omega arith)
-      ∙ ap (λ (l : List ℕ). ahead n (first M (s + n) (l ++ b))) (drop_of_length-le a past)
-
--- the second row alone, some way ahead
-pub first_alone : (M s n at : ℕ) (a : List ℕ) → s ≤ 65534 → n ≡ min (65534 - s) (noise_run a)
-    → ahead at (first M s a) ≡ ahead (at + n) (settled (stands M (drop n a ++ [])) (s + n) (length (drop n a ++ [])))
-unfolding crossing
-first_alone M s n at a low run =
-    ap (λ (l : List ℕ). ahead at (first M s l)) (sym (append-nil a))
-    ∙ ap (ahead at) (first-here M s n a [] low run (λ _. refl) (none (eqb (length a - n) 1 && ltb (s + n) 65534)))
-    ∙ ahead-ahead at n (settled (stands M (drop n a ++ [])) (s + n) (length (drop n a ++ [])))
+-- behind the run nothing is skipped
+pub first-here : (M s n : ℕ) (a : List ℕ) → s ≤ 65534 → n ≡ min (65534 - s) (noise_run a)
+    → first M s a ≡ ahead n (settled (stands M (drop n a)) (s + n) (length (drop n a)))
+first-here M s n a low run =
+    first_run M s n a (omega arith) (omega arith)
+    ∙ ap (ahead n) (first-settled M (s + n) (drop n a) (by_count (ltb (s + n) 65534) refl))
   where
-    none : (t : Bool) → t && false ≡ false
-    none true = refl
-    none false = refl
+    here-calm : (xs : List ℕ) → noise_run xs ≡ 0 → is_skip (stands M xs) ≡ false
+    here-calm [] z = ap is_skip (nothing-waits M)
+    here-calm (x ∷ xs) z = marked-calm M x xs (no-noise x xs z).0 (no-noise x xs z).1
 
--- nothing is held
-pub first-none : (M s : ℕ) (a b : List ℕ) → length a ≡ 0 → ahead 0 (first M s b) ≡ first M s (a ++ b)
-first-none M s [] b e = ahead-zero (first M s b)
-first-none M s (x ∷ a) b e = absurd (omega arith)
+    by_count : (t : Bool) → ltb (s + n) 65534 ≡ t → (is_skip (stands M (drop n a)) ≡ false) ⊎ (suc (s + n) ≡ noise_at)
+    by_count true e = inl (here-calm (drop n a) (omega (arith, ltb-true (s + n) 65534 e, run-left n a (omega arith))))
+    by_count false e = inr (omega (arith, ltb-false (s + n) 65534 e))

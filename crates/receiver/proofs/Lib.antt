@@ -1,9 +1,9 @@
-pub mod Spans
-pub mod Walks
-pub mod Shifts
-pub mod Aheads
 pub mod Finds
-pub mod Answers
+pub mod Joins
+pub mod Crossings
+pub mod Aheads
+pub mod Walks
+pub mod Spans
 pub mod Settles
 pub mod Rules
 pub mod Serves

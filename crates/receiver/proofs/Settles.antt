@@ -6,15 +6,18 @@ use native.Mathlib.Omega.{arith}
 use mathlib.Core.List.{List, ◌++◌}
 use mathlib.Core.Path.{◌≡◌, refl, sym, ap, ◌∙◌}
 use borrow.Author.Rules.{rules}
-use lib.ListN.{length, take, drop, replicate, length-append, length-drop, replicate-append-replicate, drop_of_length-le}
+use lib.ListN.{length, length-take, take, drop, replicate, length-append, length-drop, replicate-append-replicate, drop_of_length-le, take-append-drop}
 use lib.Seq.{drop-drop, drop-append-add, drop-append_seam, take-append_seam, take_at, take_all, length-take-le}
 use Rattle.octets.specs.Parts.{put_at}
 use Rattle.octets.proofs.Parts.{put_is}
 use Rattle.octets.proofs.Rows.{drop-over, drop-take}
+use Rattle.reading.specs.declared.Event.{Event as Coded}
+use Rattle.reading.specs.declared.Event.TheVariants as coded
+use Rattle.reading.specs.Events.{event_of}
+use Rattle.reading.specs.Values.{told, packet_of}
 use Rattle.reading.specs.Calls.{pad_to, copied}
 use Rattle.reading.proofs.Pads.{pad-long}
 use Rattle.receiver.specs.Shifts.{shifted}
-use Rattle.receiver.proofs.Spans.{parts_are, part-short}
 
 drop-zeros : (k n : ℕ) → drop {A = ℕ} k (replicate n 0) ≡ replicate (n - k) 0
 drop-zeros zero n = ap (λ (m : ℕ). replicate m 0) (sym (sub-zero n))
@@ -41,29 +44,45 @@ put_two out front back q e h =
     ∙ ap (λ (l : List ℕ). front ++ back ++ l) rest
     ∙ ap (λ (l : List ℕ). l ++ drop (length q) out) e
 
--- a packet put to the front: none, one that begins in the second row, and one that begins in the first
-pub delivers-none : (n : ℕ) (s out : List ℕ) → n ≡ 0 → out ≡ copied (take n s) out
-delivers-none n s out e = simp e
+-- a packet put to the front, in its two parts
+pub delivers : (e : Coded) (n : ℕ) (xs rest out front back half after : List ℕ) → e ≡ coded.Packet n → (told (event_of e)).length ≤ length out
+    → rest ≡ xs → front ++ back ≡ take n rest → (place : ℕ) → place ≡ 0 → half ≡ put_at out place front → after ≡ put_at half (length front) back
+    → after ≡ copied (packet_of (event_of e) xs) out
+unfolding packet_of told
+delivers e n xs rest out front back half after is fits left are place first one two =
+    let packet : packet_of (event_of e) xs ≡ take n xs = ap (λ (q : Coded). packet_of (event_of q) xs) is in
+    let size : (told (event_of e)).length ≡ n = ap (λ (q : Coded). (told (event_of q)).length) is in
+    two
+    ∙ ap (λ (o : List ℕ). put_at o (length front) back) (one ∙ ap (λ (k : ℕ). put_at out k front) first)
+    ∙ put_two out front back (take n xs) (are ∙ ap (take n) left) (omega (arith, length-take n xs, size))
+    ∙ ap (λ (l : List ℕ). copied l out) (sym packet)
 
-module _ (n at : ℕ) (a b out after : List ℕ) where
-  pub delivers-back : (p : List ℕ) → after ≡ put_at out 0 p → p ≡ take n (drop (at - length a) b) → length a ≤ at
-      → length (take n (drop at (a ++ b))) ≤ length out → after ≡ copied (take n (drop at (a ++ b))) out
-  delivers-back p e q h fits =
-      e
-      ∙ put_front out p (take n (drop at (a ++ b)))
-      (q ∙ ap (take n) (sym (drop-over at a b ∙ ap (λ (l : List ℕ). l ++ drop (at - length a) b) (drop_of_length-le a h)))) fits
+-- it lies behind where it stands, whole
+pub packet-at : (e : Coded) (n at m : ℕ) → e ≡ coded.Packet n → at + (told (event_of e)).length ≤ m → at + n ≤ m
+unfolding told
+packet-at e n at m is h = omega (arith, ap (λ (q : Coded). (told (event_of q)).length) is)
 
-  pub delivers-both : (front back half : List ℕ) → after ≡ put_at half (length front) back → half ≡ put_at out 0 front → front ≡ take n (drop at a)
-      → back ≡ take (n - length front) b → at < length a → length (take n (drop at (a ++ b))) ≤ length out
-      → after ≡ copied (take n (drop at (a ++ b))) out
-  delivers-both front back half e g p q h fits =
-      let here : 0 ≡ at - length a = omega arith in
-      e
-      ∙ ap (λ (o : List ℕ). put_at o (length front) back) g
-      ∙ put_two out front back (take n (drop at (a ++ b)))
-      (parts_are at n a b front back p (q ∙ ap (λ (k : ℕ). take (n - length front) (drop k b)) here)) fits
+-- and none of another event
+pub delivers-none : (e : Coded) (xs out : List ℕ) → ((n : ℕ) → e ≡ coded.Packet n → ⊥) → out ≡ copied (packet_of (event_of e) xs) out
+unfolding packet_of told
+delivers-none coded.More xs out other = refl
+delivers-none coded.Noise xs out other = refl
+delivers-none coded.Length xs out other = refl
+delivers-none coded.End xs out other = refl
+delivers-none coded.Sum xs out other = refl
+delivers-none (coded.Packet n) xs out other = absurd (other n refl)
 
-pub ruleset delivering = (rules, part-short, delivers-none, delivers-back, delivers-both)
+pub ruleset delivering = (rules, delivers, delivers-none, packet-at)
+
+-- nothing is moved
+module _ (row : List ℕ) (by count : ℕ) where
+  pub moved_none : by ≡ 0 → row ≡ shifted row by count
+  moved_none e = sym (take-append-drop count row) ∙ ap (λ (b : ℕ). shifted row b count) (sym e)
+
+  pub moved-few : count ≡ 0 → row ≡ shifted row by count
+  moved-few e = ap (λ (n : ℕ). shifted row by n) (sym e)
+
+pub ruleset moving = (rules, moved_none, moved-few)
 
 -- a hold whose held bytes were moved to its front from the next position on, and behind them put what follows it of the bytes taken
 pub record Settling (row : List ℕ) (held next : ℕ) (taken : List ℕ) (keep : ℕ) (tail now : List ℕ) : Type 0 where

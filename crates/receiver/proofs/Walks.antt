@@ -1,29 +1,29 @@
--- The laws by which `search` walks what stands at the head of two rows, past each test by the byte or the length that was read, to the
+-- The laws by which `search` walks what stands at the head of a line, past each test by the byte or the length that was read, to the
 -- answer. Assumes nothing.
 use Prim.Native.Nat.{ℕ, ◌+◌, ◌*◌, ◌≤◌, ◌<◌}
 use native.Mathlib.Omega.{arith}
 use mathlib.Core.Bool.{cond}
-use mathlib.Core.List.{List, ◌++◌}
+use mathlib.Core.List.{List}
 use mathlib.Core.Path.{◌≡◌, sym, ap, ◌∙◌}
 use borrow.Author.Tests.{le-leb, lt-leb, eq-eqb, ne_eqb}
 use lib.Dec.{leb, eqb}
-use lib.ListN.{length, get_or, length-append}
+use lib.ListN.{length, get_or}
 use Rattle.octets.proofs.Numbers.{low-two}
 use Rattle.frame.specs.Frame.{packet_length, unit_length, ended, sum_of, summed}
-use Rattle.reading.specs.declared.Event.TheVariants.{Length, End, Sum, Packet}
-use Rattle.reading.specs.declared.Standing.{Standing}
-use Rattle.reading.specs.declared.Standing.TheVariants.{Wait, Skip, Hit}
+use Rattle.reading.specs.Events.Event.{Length, End, Sum, Packet}
+use Rattle.reading.specs.Events.{Standing}
+use Rattle.reading.specs.Events.Standing.{Wait, Skip, Hit}
 use Rattle.reading.specs.Standing.{when_there, judged_frame, started, stands}
 
 module _ (v w : Standing) where
   -- so many bytes are there, or too few
-  pub goes_on : (n : ℕ) (a b : List ℕ) → n ≤ length a + length b → v ≡ w → v ≡ when_there n (a ++ b) w
+  pub goes_on : (n m : ℕ) (xs : List ℕ) → m ≡ length xs → n ≤ m → v ≡ w → v ≡ when_there n xs w
   unfolding when_there
-  goes_on n a b h e = simp (le-leb n (length (a ++ b)) (omega (arith, length-append a b))) e
+  goes_on n m xs long h e = simp (le-leb n (length xs) (omega (arith, long))) e
 
-  pub waits : (n : ℕ) (a b : List ℕ) → length a + length b < n → v ≡ Wait → v ≡ when_there n (a ++ b) w
+  pub waits : (n m : ℕ) (xs : List ℕ) → m ≡ length xs → m < n → v ≡ Wait → v ≡ when_there n xs w
   unfolding when_there
-  waits n a b h e = simp (lt-leb n (length (a ++ b)) (omega (arith, length-append a b))) e
+  waits n m xs long h e = simp (lt-leb n (length xs) (omega (arith, long))) e
 
   module _ (z : Standing) where
     -- a byte that was read is the one asked for, or another
@@ -80,9 +80,9 @@ module _ (v : Standing) (M : ℕ) (xs : List ℕ) where
       let size : unit_length xs ≡ x + 256 * y = low-two xs 24 ∙ sym (omega (arith, f ∙ e, h ∙ g)) in
       k ∙ ap (λ (l : ℕ). when_there 26 xs (cond (leb l M) (when_there (packet_length l) xs (judged_frame l xs)) (Hit Length 26 1))) (sym size)
 
-pub start-waits : (v : Standing) (M : ℕ) (a b : List ℕ) → length a + length b < 26 → v ≡ Wait → v ≡ started M (a ++ b)
+pub start-waits : (v : Standing) (M m : ℕ) (xs : List ℕ) → m ≡ length xs → m < 26 → v ≡ Wait → v ≡ started M xs
 unfolding started
-start-waits v M a b = waits v _ 26 a b
+start-waits v M m xs = waits v _ 26 m xs
 
 pub judged-by : (v : Standing) (l : ℕ) (xs : List ℕ)
     → v ≡ cond (ended l xs) (cond (summed l xs) (Hit (Packet (packet_length l)) (packet_length l) (packet_length l)) (Hit Sum (packet_length l) 1)) (Hit End (packet_length l) 1)

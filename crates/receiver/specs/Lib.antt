@@ -1,3 +1,4 @@
 pub mod Runs
+pub mod Lines
 pub mod Shifts
 pub mod Receivers

@@ -1,9 +1,8 @@
 -- Words that the receiver's own steps speak in: what is found some way ahead, and what is found where nothing is skipped but the byte
 -- that makes NOISE. Assumes nothing.
 use Rattle.std.specs.Prelude.{ℕ, ◌+◌, Bool, ◌&&◌, List, eqb, ltb}
-use Rattle.reading.specs.declared.Standing.{Standing}
-use Rattle.reading.specs.declared.Standing.TheVariants.{Wait, Skip, Hit}
-use Rattle.reading.specs.declared.Step.{Step}
+use Rattle.reading.specs.Events.{Standing, Step}
+use Rattle.reading.specs.Events.Standing.{Wait, Skip, Hit}
 use Rattle.reading.specs.Finding.{more, noise, hit}
 use Rattle.rows.specs.Runs.{starts_other}
 
