@@ -8,7 +8,7 @@ use mathlib.Core.List.{List}
 use mathlib.Core.Path.{◌≡◌, sym, ap, ◌∙◌}
 use lib.Arith.{lt_of_le-ne}
 use lib.Dec.{eqb, leb}
-use lib.ListN.{length, get_or, set, replicate, get_or-replicate}
+use lib.ListN.{length, get_or, set, replicate, take, drop, get_or-replicate}
 use lib.Seq.{get_or-set_same, get_or-set_other}
 use Rattle.octets.specs.Searches.{first_fit, any_fits}
 use Rattle.octets.proofs.Searches.{found-there}
@@ -17,7 +17,8 @@ use Rattle.place.specs.declared.Place.{Place}
 use Rattle.place.specs.Rules.{is_open, holds}
 use Rattle.place.proofs.Kept.{holds-is, open-holds}
 use Rattle.places.specs.Rows.{place_at, holds_at, is_open_as, double_at, upward, serial_for}
-use Rattle.places.specs.Held.{NONE, held_by, Held, stands_at, stands_in}
+use Rattle.places.specs.Held.{NONE, held_by, Held, stands_at, stands_in, serial_in}
+use Rattle.places.proofs.Hitting.{stands_among, among-part}
 
 module _ (ps : List Place) where
   up_one : (i j k : ℕ) → i ≡ j + 1 → (k ≡ j → ⊥) → leb i k ≡ leb j k
@@ -85,31 +86,34 @@ module _ (ps : List Place) where
         ∙ is.1 in
         (omega arith, omega arith, eq-eqb (get_or row k 0) s has)
 
-    pub stands-as-open : stands_in row from s ≡ is_open_as ps low (from + 8) s
-    unfolding stands_in is_open_as
+    pub stands-as-open : stands_among row from s ≡ is_open_as ps low (from + 8) s
+    unfolding stands_among is_open_as
     stands-as-open =
         both-or-none (any_fits (stands_at row s) from 8) (any_fits (holds_at ps s) low (from + 8 - low))
         (found-there (stands_at row s) (holds_at ps s) from 8 low (from + 8 - low) stands-open)
         (found-there (holds_at ps s) (stands_at row s) low (from + 8 - low) from 8 open-stands)
 
   -- a row that has what all places hold
-  module _ (row : List ℕ) (from : ℕ) (few : from ≤ 8) (held : Held row ps 0) where
+  module _ (row : List ℕ) (from m : ℕ) (few : from ≤ 8) (held : Held row ps 0) (long : length row ≡ 16) (whole : m ≡ 8) where
     eight : from + 8 - from ≡ 8
     eight = omega arith
 
+    in-part : (s : ℕ) → s < 65536 → stands_in (take m (drop from row)) s ≡ is_open_as ps from (from + 8) s
+    in-part s small = among-part row from m s whole (omega arith) ∙ stands-as-open row 0 from from s few small held (omega arith) (omega arith) (λ k l u. l)
+
     -- the first serial that does not stand among the eight is the first that is not open
-    pub serial-in-row : (next : ℕ) → upward next (first_fit (λ j. not (stands_in row from (upward next j))) 0 8) ≡ serial_for ps from (from + 8) next
-    unfolding serial_for
+    pub serial-in-row : (next : ℕ) → serial_in (take m (drop from row)) next ≡ serial_for ps from (from + 8) next
+    unfolding serial_in serial_for
     serial-in-row next =
-        (λ i. upward next (first_fit
-        (λ j. not (stands-as-open row 0 from from (upward next j) few (omega arith) held (omega arith) (omega arith) (λ k l u. l) i)) 0 8))
+        (λ i. upward next (first_fit (λ j. not (in-part (upward next j) (omega arith) i)) 0 8))
         ∙ ap (λ (n : ℕ). upward next (first_fit (λ j. not (is_open_as ps from (from + 8) (upward next j))) 0 n)) (sym eight)
 
   -- a place behind which its serial stands among its centre's is a double, and one behind which it does not is none
-  pub double-by-row : (row : List ℕ) (i j from : ℕ) → i ≡ j + 1 → from ≤ 8 → from ≤ j → j < from + 8 → (place_at ps j).serial < 65536 → Held row ps i
-      → is_open (place_at ps j).mode && stands_in row from (place_at ps j).serial ≡ double_at ps (from + 8) j
-  double-by-row row i j from e few l u small held =
+  pub double-by-row : (row : List ℕ) (i j from m : ℕ) → i ≡ j + 1 → from ≤ 8 → from ≤ j → j < from + 8 → (place_at ps j).serial < 65536 → Held row ps i
+      → length row ≡ 16 → m ≡ 8 → is_open (place_at ps j).mode && stands_in (take m (drop from row)) (place_at ps j).serial ≡ double_at ps (from + 8) j
+  double-by-row row i j from m e few l u small held long whole =
       let p = place_at ps j in
       ap (λ (b : Bool). is_open p.mode && b)
-      (stands-as-open row i from i p.serial few small held (omega arith) (omega arith) (λ k a b. b)
+      (among-part row from m p.serial whole (omega arith)
+      ∙ stands-as-open row i from i p.serial few small held (omega arith) (omega arith) (λ k a b. b)
       ∙ ap (λ (n : ℕ). is_open_as ps n (from + 8) p.serial) e)

@@ -6,5 +6,5 @@ pub mod Sought
 mod Reaching
 mod Loops
 mod Marks
-mod Sweeping
 mod Hitting
+mod Sweeping

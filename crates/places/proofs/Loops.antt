@@ -6,19 +6,20 @@ use mathlib.Core.List.{List}
 use mathlib.Core.Path.{◌≡◌, refl, sym, ap, subst, subst⁻¹, ◌∙◌}
 use lib.Arith.{lt_of_le-ne}
 use lib.Dec.{eqb, ltb, leb}
-use lib.ListN.{length, get_or, set, replicate, length-set}
+use lib.ListN.{length, get_or, set, replicate, take, drop, length-set}
 use lib.Seq.{get_or-set_same, get_or-set_other}
 use borrow.Author.Tests.{eq-eqb, ne_eqb, eqb-true, eqb-false, lt-ltb, le-ltb}
 use Rattle.octets.specs.Searches.{first_fit}
 use Rattle.octets.proofs.Flags.{by-test, on, off}
 use Rattle.octets.proofs.Searches.{first-here, first_on, first-end}
+use Rattle.std.specs.Prelude.{None, Ok, Err}
 use Rattle.place.specs.declared.Place.{Place}
 use Rattle.place.specs.Rules.{is_open, is_zero, keeps}
 use Rattle.place.proofs.Kept.{zero-free, zero-keeps, kept-open, kept-as-open}
-use Rattle.places.specs.declared.Search.TheVariants.{Broken, Outside, Nothing, At}
-use Rattle.places.specs.declared.Swept.{Swept}
-use Rattle.places.specs.Rows.{place_at, free_at, keeps_at, lowest_free, double_at, low_of, end_of, owner_of, all_sound, upward, sought, opening, unswept, swept}
-use Rattle.places.specs.Held.{NONE, held_by, Held, stands_in, serial_in, Weighed}
+use Rattle.places.specs.declared.Unfound.{Unfound}
+use Rattle.places.specs.declared.Unfound.TheVariants.{Broken, Outside, Nothing}
+use Rattle.places.specs.Rows.{place_at, free_at, keeps_at, lowest_free, double_at, low_of, end_of, owner_of, all_sound, upward, opening, swept}
+use Rattle.places.specs.Held.{NONE, held_by, Held, stands_in, serial_in, Weighed, Gathered}
 use Rattle.places.proofs.Held.{held_none, held_more, held_on, serial-in-row, double-by-row}
 use Rattle.places.proofs.Rules.{sound-keeps, sound-single, each-sound}
 use Rattle.places.proofs.Serials.{upward-none, upward-more}
@@ -128,16 +129,18 @@ module _ (t r : ℕ) (ps : List Place) where
           (λ a. absurd (false≢true (sym (off keeping m) ∙ sound-keeps t r ps a (i - 1) (omega (arith, s.few)))))
           sym
 
-      -- b is whether its serial stands in the row
-      module _ (m : not k ≡ false) (b : Bool) (told : (b ≡ stands_in row (low_of (owner_of (i - 1))) p.serial) × (p.serial < 65536)) where
+      -- b is whether its serial stands in the row among those of its centre, which stand from low on
+      module _ (m : not k ≡ false) (low wide : ℕ) (own : low ≡ low_of (owner_of (i - 1))) (whole : wide ≡ 8) (b : Bool)
+          (told : (b ≡ stands_in (take wide (drop low row)) p.serial) × (p.serial < 65536)) where
         own_open : is_open p.mode ≡ true
         own_open = kept-open p t r (on keeping m) nonzero
 
         double-is : b ≡ double_at ps (end_of (owner_of (i - 1))) (i - 1)
         double-is =
             told.0
+            ∙ ap (λ (j : ℕ). stands_in (take wide (drop j row)) p.serial) own
             ∙ sym (simp own_open)
-            ∙ double-by-row ps row i (i - 1) (low_of (owner_of (i - 1))) (omega arith) (omega (arith, s.few)) (omega arith) (omega arith) told.1 s.held
+            ∙ double-by-row ps row i (i - 1) (low_of (owner_of (i - 1))) wide (omega arith) (omega (arith, s.few)) (omega arith) (omega arith) told.1 s.held s.long whole
 
         one-double : b ≡ true → false ≡ all_sound t r ps
         one-double e =
@@ -146,30 +149,30 @@ module _ (t r : ℕ) (ps : List Place) where
             sym
 
         -- an open one
-        pub looked-open : b ≡ false → Looked t r ps (set row (i - 1) p.serial) (i - 1)
-        looked-open f =
-            let own : held_by p ≡ p.serial = simp own_open in
+        pub looked-open : (x : ℕ) → x ≡ p.serial → b ≡ false → Looked t r ps (set row (i - 1) x) (i - 1)
+        looked-open x is f =
+            let holds : held_by p ≡ x = simp own_open (sym is) in
             record {
               few = omega (arith, s.few);
-              long = length-set row (i - 1) p.serial ∙ s.long;
-              held = subst (λ (y : ℕ). Held (set row (i - 1) y) ps (i - 1)) own (held_more ps row i (i - 1) (omega arith) s.long s.held);
+              long = length-set row (i - 1) x ∙ s.long;
+              held = subst (λ (y : ℕ). Held (set row (i - 1) y) ps (i - 1)) holds (held_more ps row i (i - 1) (omega arith) s.long s.held);
               kept = one_more (λ j. keeps_at t r ps j ≡ true) i below (on keeping m) s.kept;
               single = one_more (λ j. double_at ps (end_of (owner_of j)) j ≡ false) i below (sym double-is ∙ f) s.single;
             }
 
-        pub sought-double : (c x y : ℕ) → b ≡ true → Broken ≡ sought t r ps c x y
-        sought-double c x y e = when-broken t r ps c x y (sym (one-double e))
+        pub gather-double : b ≡ true → Gathered t r ps (Err Broken)
+        gather-double e = record { rows = (refl, sym (one-double e)) }
 
-        pub sweep-double : (y : Swept) → b ≡ true → y ≡ unswept ps → y ≡ swept t r ps
+        pub sweep-double : b ≡ true → None ≡ swept t r ps
         unfolding swept
-        sweep-double y e q = q ∙ simp (sym (one-double e))
+        sweep-double e = simp (sym (one-double e))
 
-      pub sought-breaks : (c x y : ℕ) → not k ≡ true → Broken ≡ sought t r ps c x y
-      sought-breaks c x y m = when-broken t r ps c x y (sym (one-breaks m))
+      pub gather-breaks : not k ≡ true → Gathered t r ps (Err Broken)
+      gather-breaks m = record { rows = (refl, sym (one-breaks m)) }
 
-      pub sweep-breaks : (y : Swept) → not k ≡ true → y ≡ unswept ps → y ≡ swept t r ps
+      pub sweep-breaks : not k ≡ true → None ≡ swept t r ps
       unfolding swept
-      sweep-breaks y m q = q ∙ simp (sym (one-breaks m))
+      sweep-breaks m = simp (sym (one-breaks m))
 
   -- after the last turn
   module _ (row : List ℕ) (i : ℕ) (out : i ≤ 0) (s : Looked t r ps row i) where
@@ -179,92 +182,91 @@ module _ (t r : ℕ) (ps : List Place) where
     pub all_held : Held row ps 0
     all_held = let end : i ≡ 0 = omega arith in subst (Held row ps) end s.held
 
-pub ruleset looking = (looked-free, sought-breaks, sought-double, looked-open)
+    pub gathered : Gathered t r ps (Ok row)
+    gathered = record { rows = (looked-sound, s.long, all_held) }
 
--- the loop that looks for a free place among the eight from one number on: what is left decides as all does
-pub record Filled (ps : List Place) (from k : ℕ) : Type 0 where
+pub ruleset looking = (looked-free, gather-breaks, gather-double, looked-open, gathered)
+
+-- the loop that looks for the first place that fits among the eight from one number on: what is left decides as all does
+pub record Passed (f : ℕ → Bool) (from k : ℕ) : Type 0 where
   pub low : from ≤ k
-  pub same : first_fit (free_at ps) k (from + 8 - k) ≡ lowest_free ps from (from + 8)
+  pub same : first_fit f k (from + 8 - k) ≡ first_fit f from (from + 8 - from)
 
-module _ (ps : List Place) (from : ℕ) where
-  pub filled_none : Filled ps from from
-  unfolding lowest_free
-  filled_none = record { low = omega arith; same = refl }
+module _ (f : ℕ → Bool) (from : ℕ) where
+  pub passed-none : Passed f from from
+  passed-none = record { low = omega arith; same = refl }
 
-  module _ (k : ℕ) (l : Filled ps from k) where
-    -- b is whether the place is open
-    module _ (b : Bool) (told : b ≡ is_open (place_at ps k).mode) (h : k < from + 8) where
-      pub filled_on : not b ≡ false → Filled ps from (k + 1)
-      filled_on n = record { low = omega (arith, l.low); same = sym (first_on (free_at ps) k (from + 8) h (sym (ap not told) ∙ n)) ∙ l.same }
+  module _ (k : ℕ) (l : Passed f from k) where
+    pub passed-on : k < from + 8 → f k ≡ false → Passed f from (k + 1)
+    passed-on h e = record { low = omega (arith, l.low); same = sym (first_on f k (from + 8) h e) ∙ l.same }
 
-      filled-here : not b ≡ true → k ≡ lowest_free ps from (from + 8)
-      filled-here n = sym (first-here (free_at ps) k (from + 8) h (sym (ap not told) ∙ n)) ∙ l.same
+    pub passed-here : k < from + 8 → f k ≡ true → k ≡ first_fit f from (from + 8 - from)
+    passed-here h e = sym (first-here f k (from + 8) h e) ∙ l.same
 
-    filled-all : from + 8 ≤ k → k ≡ lowest_free ps from (from + 8)
-    filled-all h = sym (first-end (free_at ps) k (from + 8) h) ∙ l.same
+    pub passed-all : from + 8 ≤ k → k ≡ first_fit f from (from + 8 - from)
+    passed-all h = sym (first-end f k (from + 8) h) ∙ l.same
 
--- what a beginning finds, after the last turn
-module _ (t r : ℕ) (ps : List Place) (row : List ℕ) (i : ℕ) (out : i ≤ 0) (s : Looked t r ps row i) (c next : ℕ) where
-  sound : all_sound t r ps ≡ true
-  sound = looked-sound t r ps row i out s
+-- where a place is open, the search for a free one goes on
+pub free-on : (ps : List Place) (from k : ℕ) (b : Bool) → Passed (free_at ps) from k → b ≡ is_open (place_at ps k).mode → k < from + 8 → b ≡ true
+    → Passed (free_at ps) from (k + 1)
+free-on ps from k b l told h e = passed-on (free_at ps) from k l h (sym (ap not told) ∙ ap not e)
 
-  pub opening-outside : 2 ≤ c → Outside ≡ opening t r ps c next
-  opening-outside h = when-outside t r ps c _ _ sound h
+-- what a beginning finds, in places that keep the rules
+module _ (t r : ℕ) (ps : List Place) (c next : ℕ) where
+  -- the places of no centre are not looked at
+  pub opening-broken : (e : Unfound) → (e ≡ Broken) × (all_sound t r ps ≡ false) → Err e ≡ opening t r ps c next
+  opening-broken e b = ap (λ (x : Unfound). Err x) b.0 ∙ when-broken t r ps c _ _ b.1
 
-  module _ (inside : c < 2) (k : ℕ) (l : Filled ps (c * 8) k) where
-    pub opening-full : c * 8 + 8 ≤ k → Nothing ≡ opening t r ps c next
-    opening-full h = when-nothing t r ps c _ _ sound inside (omega (arith, filled-all ps (c * 8) k l h, h))
+  module _ (sound : all_sound t r ps ≡ true) where
+    pub opening-outside : 2 ≤ c → Err Outside ≡ opening t r ps c next
+    opening-outside h = when-outside t r ps c _ _ sound h
 
-    pub opening-at : (b : Bool) (x : ℕ) → b ≡ is_open (place_at ps k).mode → k < c * 8 + 8 → not b ≡ true → x ≡ serial_in row (c * 8) next
-        → At k x ≡ opening t r ps c next
-    unfolding serial_in
-    opening-at b x told h n e =
-        let lowest = filled-here ps (c * 8) k l b told h n in
-        let is = e ∙ serial-in-row ps row (c * 8) (omega arith) (all_held t r ps row i out s) next in
-        (λ j. At (lowest j) (is j)) ∙ when-at t r ps c _ _ sound inside (omega (arith, lowest, h))
+    module _ (inside : c < 2) (k : ℕ) (l : Passed (free_at ps) (c * 8) k) where
+      pub opening-full : c * 8 + 8 ≤ k → Err Nothing ≡ opening t r ps c next
+      unfolding lowest_free
+      opening-full h = when-nothing t r ps c _ _ sound inside (omega (arith, passed-all (free_at ps) (c * 8) k l h, h))
 
-pub ruleset opened = (opening-outside, opening-full, opening-at, filled_none, filled_on)
+      pub opening-at : (row : List ℕ) → length row ≡ 16 → Held row ps 0 → (b : Bool) (x n : ℕ) → b ≡ is_open (place_at ps k).mode → k < c * 8 + 8
+          → b ≡ false → n ≡ 8 → x ≡ serial_in (take n (drop (c * 8) row)) next → Ok (k, x) ≡ opening t r ps c next
+      unfolding lowest_free
+      opening-at row long held b x n told h e whole is =
+          let lowest = passed-here (free_at ps) (c * 8) k l h (sym (ap not told) ∙ ap not e) in
+          let first = is ∙ serial-in-row ps row (c * 8) n (omega arith) held long whole next in
+          (λ j. Ok (lowest j, first j)) ∙ when-at t r ps c _ _ sound inside (omega (arith, lowest, h))
 
 -- whether the serial so many after the next one stands in none of the eight
-abbrev unheld : List ℕ → ℕ → ℕ → ℕ → Bool
-unheld row from next j = not (stands_in row from (upward next j))
+abbrev unheld : List ℕ → ℕ → ℕ → Bool
+unheld row next j = not (stands_in row (upward next j))
 
 -- so many serials were tried, and the first of the rest that does not stand in the row is the first of all
-pub record Tried (row : List ℕ) (from next serial tried : ℕ) : Type 0 where
+pub record Tried (row : List ℕ) (next serial tried : ℕ) : Type 0 where
   pub here : serial ≡ upward next tried
-  pub same : first_fit (unheld row from next) tried (8 - tried) ≡ first_fit (unheld row from next) 0 8
+  pub same : first_fit (unheld row next) tried (8 - tried) ≡ first_fit (unheld row next) 0 8
 
-module _ (row : List ℕ) (from next : ℕ) where
-  -- the next one itself
-  pub serial-next : (b : Bool) → next < 65536 → b ≡ stands_in row from next → not b ≡ true → next ≡ serial_in row from next
-  unfolding serial_in first_fit
-  serial-next b h told n =
-      let free : unheld row from next 0 ≡ true = ap (λ (s : ℕ). not (stands_in row from s)) (sym (upward-none next h)) ∙ ap not (sym told) ∙ n in
-      simp free (upward-none next h)
+module _ (row : List ℕ) (next : ℕ) where
+  pub none_tried : next < 65536 → Tried row next next 0
+  none_tried h = let all : 8 - 0 ≡ 8 = omega arith in record { here = upward-none next h; same = ap (first_fit (unheld row next) 0) all }
 
-  pub none_tried : next < 65536 → Tried row from next next 0
-  none_tried h = let all : 8 - 0 ≡ 8 = omega arith in record { here = upward-none next h; same = ap (first_fit (unheld row from next) 0) all }
-
-  module _ (serial tried : ℕ) (t : Tried row from next serial tried) where
-    found_at : first_fit (unheld row from next) tried (8 - tried) ≡ tried → serial ≡ serial_in row from next
+  module _ (serial tried : ℕ) (t : Tried row next serial tried) where
+    found_at : first_fit (unheld row next) tried (8 - tried) ≡ tried → serial ≡ serial_in row next
     unfolding serial_in
     found_at e = t.here ∙ ap (upward next) (sym e ∙ t.same)
 
-    pub serial-last : 8 ≤ tried → serial ≡ serial_in row from next
-    serial-last h = found_at (first-end (unheld row from next) tried 8 h)
+    pub serial-last : 8 ≤ tried → serial ≡ serial_in row next
+    serial-last h = found_at (first-end (unheld row next) tried 8 h)
 
-    module _ (b : Bool) (told : b ≡ stands_in row from serial) (h : tried < 8) where
-      told_at : unheld row from next tried ≡ not b
-      told_at = ap (λ (s : ℕ). not (stands_in row from s)) (sym t.here) ∙ ap not (sym told)
+    module _ (b : Bool) (told : b ≡ stands_in row serial) (h : tried < 8) where
+      told_at : unheld row next tried ≡ not b
+      told_at = ap (λ (s : ℕ). not (stands_in row s)) (sym t.here) ∙ ap not (sym told)
 
-      pub serial-here : not b ≡ true → serial ≡ serial_in row from next
-      serial-here n = found_at (first-here (unheld row from next) tried 8 h (told_at ∙ n))
+      pub serial-here : b ≡ false → serial ≡ serial_in row next
+      serial-here n = found_at (first-here (unheld row next) tried 8 h (told_at ∙ ap not n))
 
-      pub one-tried : (s : ℕ) → not b ≡ false → s ≡ upward serial 1 → Tried row from next s (tried + 1)
+      pub one-tried : (s : ℕ) → b ≡ true → s ≡ upward serial 1 → Tried row next s (tried + 1)
       one-tried s n e =
           record {
             here = e ∙ ap (λ (k : ℕ). upward k 1) t.here ∙ upward-more next tried;
-            same = sym (first_on (unheld row from next) tried 8 h (told_at ∙ n)) ∙ t.same;
+            same = sym (first_on (unheld row next) tried 8 h (told_at ∙ ap not n)) ∙ t.same;
           }
 
-pub ruleset trying = (serial-next, none_tried, one-tried, serial-here, serial-last)
+pub ruleset trying = (none_tried, serial-last)

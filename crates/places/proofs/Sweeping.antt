@@ -1,66 +1,38 @@
 -- The tick's loop: the places from i on have taken their step and are reported. Assumes nothing.
-use Prim.Native.Nat.{ℕ, suc, ◌+◌, ◌-◌, ◌≤◌, ◌<◌}
+use Prim.Native.Nat.{ℕ, suc, ◌-◌, ◌≤◌, ◌<◌}
 use native.Mathlib.Omega.{arith}
-use mathlib.Core.Bool.{Bool, true, false, not, ◌&&◌, and-eq-true_iff}
+use mathlib.Core.Bool.{Bool, true, ◌&&◌, and-eq-true_iff}
 use mathlib.Core.List.{List}
-use mathlib.Core.Path.{◌≡◌, refl, sym, ap, subst, subst⁻¹, ◌∙◌}
-use borrow.Author.Tests.{eqb-true, eq-eqb, ltb-true, ltb-false}
-use lib.Dec.{eqb, ltb, leb}
+use mathlib.Core.Path.{◌≡◌, refl, sym, ap, subst, ◌∙◌}
+use borrow.Author.Tests.{eqb-true, eq-eqb}
+use lib.Dec.{eqb}
 use lib.ListN.{length, get_or, set, replicate, get_or-replicate}
 use Rattle.octets.proofs.Fill.{filled_from, fill_none, fill-all, fill-turn, fill_on}
 use Rattle.place.specs.declared.Place.{Place}
-use Rattle.place.specs.declared.Step.{Step}
-use Rattle.place.specs.Rules.{free, is_open, is_zero}
-use Rattle.place.specs.Steps.{NOTHING, counted, becomes, one_older, denied, ticked}
-use Rattle.octets.proofs.Flags.{on}
-use Rattle.place.proofs.Answers.{older, run_out}
+use Rattle.place.specs.declared.Step.{Step as OfEnum}
+use Rattle.place.specs.Outcomes.{number_of, in_numbers}
+use Rattle.std.specs.Prelude.{Option, Some}
+use Rattle.place.specs.Rules.{free, is_zero}
+use Rattle.place.specs.Steps.{Step, ticked}
 use Rattle.place.proofs.Kept.{zero-free}
 use Rattle.place.proofs.Lives.{ticked-free}
 use Rattle.places.specs.declared.Report.{Report}
 use Rattle.places.specs.declared.Swept.{Swept}
-use Rattle.places.specs.Rows.{place_at, aged, report, nothing, unswept, swept}
+use Rattle.places.specs.Rows.{place_at, aged, report, nothing, swept}
 use Rattle.places.specs.Held.{Weighed}
 use Rattle.places.proofs.Loops.{Looked, looked-sound}
-use Rattle.places.proofs.Marks.{Met}
 
--- what the test of an age tells
-module _ (a t : ℕ) (b : Bool) (told : b ≡ ltb (a + 1) t) where
-  pub is-young : b ≡ true → a + 1 < t
-  is-young e = ltb-true (a + 1) t (sym told ∙ e)
-
-  pub is-old : b ≡ false → t ≤ a + 1
-  is-old e = ltb-false (a + 1) t (sym told ∙ e)
-
-pub as-they-came : (ps : List Place) (reports : List Report) → reports ≡ replicate 16 nothing
-    → ◌≡◌ {A = Swept} (record { sound = false; places = ps; reports = reports }) (unswept ps)
-as-they-came ps reports e = λ j. record { sound = false; places = ps; reports = e j }
+-- a report by default tells nothing
+pub silent : (x : Report) → (x.outcome ≡ 0) × (x.serial ≡ 0) → replicate 16 x ≡ replicate 16 nothing
+silent x e = λ j. replicate 16 (record { outcome = e.0 j; serial = e.1 j })
 
 pub record SweptTo (t r : ℕ) (ps now : List Place) (reports : List Report) (i : ℕ) : Type 0 where
   pub stepped : now ≡ filled_from (aged t r) ps ps i
   pub told : reports ≡ filled_from (report t r) (replicate 16 nothing) ps i
 
--- the place before i is open, and a step that it takes is one more
-pub record Tested (t r : ℕ) (ps now : List Place) (reports : List Report) (i : ℕ) : Type 0 where
-  pub open_now : true ≡ is_open (place_at ps (i - 1)).mode
-  pub one-swept : (step : Step) → step ≡ ticked t r (place_at ps (i - 1))
-      → SweptTo t r ps (set now (i - 1) step.place) (set reports (i - 1) (record { outcome = step.outcome; serial = (place_at ps (i - 1)).serial })) (i - 1)
-
-module _ (t r : ℕ) (ps now : List Place) (reports : List Report) (i : ℕ) (z : Tested t r ps now reports i) where
-  abbrev own : Place
-  own = place_at ps (i - 1)
-
-  pub older-swept : (a : ℕ) (x : Report) → own.age + 1 < t → a ≡ own.age + 1 → x ≡ record { outcome = NOTHING; serial = own.serial }
-      → SweptTo t r ps (set now (i - 1) (counted own.resends a own)) (set reports (i - 1) x) (i - 1)
-  older-swept a x h e f =
-      let s = z.one-swept (becomes (one_older own) NOTHING) (older own true z.open_now t r refl h) in
-      subst⁻¹ (λ (y : ℕ). SweptTo t r ps (set now (i - 1) (counted own.resends y own)) (set reports (i - 1) x) (i - 1)) e
-      (subst⁻¹ (λ (y : Report). SweptTo t r ps (set now (i - 1) (one_older own)) (set reports (i - 1) y) (i - 1)) f s)
-
-  pub denied-swept : (step : Step) (x : Report) → t ≤ own.age + 1 → step ≡ denied r own → x ≡ record { outcome = step.outcome; serial = own.serial }
-      → SweptTo t r ps (set now (i - 1) step.place) (set reports (i - 1) x) (i - 1)
-  denied-swept step x h e f =
-      subst⁻¹ (λ (y : Report). SweptTo t r ps (set now (i - 1) step.place) (set reports (i - 1) y) (i - 1)) f
-      (z.one-swept step (run_out own true z.open_now t r step refl h e))
+-- of two tests that hold the first holds
+pub first-holds : (k o b : Bool) → k ≡ o && b → k ≡ true → o ≡ true
+first-holds k o b told e = ((and-eq-true_iff o b).0 (sym told ∙ e)).0
 
 module _ (t r : ℕ) (ps : List Place) (long : length ps ≡ 16) where
   pub none-swept : (reports : List Report) → reports ≡ replicate 16 nothing → SweptTo t r ps ps reports 16
@@ -77,26 +49,20 @@ module _ (t r : ℕ) (ps : List Place) (long : length ps ≡ 16) where
     up : i ≡ suc (i - 1)
     up = omega arith
 
-    -- an open one
-    one-swept : (step : Step) → step ≡ ticked t r p
-        → SweptTo t r ps (set now (i - 1) step.place) (set reports (i - 1) (record { outcome = step.outcome; serial = p.serial })) (i - 1)
-    one-swept step e =
-        let of : Step → Report = λ x. record { outcome = x.outcome; serial = p.serial } in
+    -- an open one, which stands at k: x is its outcome's number, y its serial
+    pub open-swept : (step : OfEnum) (k l x y : ℕ) → in_numbers step ≡ ticked t r p → k ≡ i - 1 → l ≡ i - 1 → x ≡ number_of step.outcome → y ≡ p.serial
+        → SweptTo t r ps (set now k step.place) (set reports l (record { outcome = x; serial = y })) (i - 1)
+    open-swept step k l x y e here there is own =
+        let of : ℕ → Report = λ o. record { outcome = o; serial = p.serial } in
         record {
           stepped =
-              (λ j. set ((s.stepped ∙ ap (filled_from (aged t r) ps ps) up) j) (i - 1) (e j).place)
+              ap (λ (n : ℕ). set now n step.place) here
+              ∙ (λ j. set ((s.stepped ∙ ap (filled_from (aged t r) ps ps) up) j) (i - 1) (e j).place)
               ∙ fill-turn (aged t r) ps ps (i - 1) free refl (omega arith);
           told =
-              (λ j. set ((s.told ∙ ap (filled_from (report t r) (replicate 16 nothing) ps) up) j) (i - 1) (of (e j)))
+              (λ j. set reports (there j) (record { outcome = is j; serial = own j }))
+              ∙ (λ j. set ((s.told ∙ ap (filled_from (report t r) (replicate 16 nothing) ps) up) j) (i - 1) (of (e j).outcome))
               ∙ fill-turn (report t r) (replicate 16 nothing) ps (i - 1) free (sym long) (omega arith);
-        }
-
-    -- k is whether it is open and keeps the rules for a place
-    pub tested-open : (k : Bool) → k ≡ is_open p.mode && (ltb p.age t && leb p.resends r) → not k ≡ false → Tested t r ps now reports i
-    tested-open k open_kept n =
-        record {
-          open_now = sym ((and-eq-true_iff (is_open p.mode) (ltb p.age t && leb p.resends r)).0 (on open_kept n)).0;
-          one-swept = one-swept;
         }
 
     unserial : is_zero p ≡ true → p.serial ≡ 0
@@ -124,18 +90,13 @@ module _ (t r : ℕ) (ps : List Place) (long : length ps ≡ 16) where
               (get_or-replicate 16 (i - 1) nothing nothing (omega arith) ∙ sym silent);
         }
 
-  -- after the last turn of a centre
-  pub swept_all : (now : List Place) (reports : List Report) (marks row : List ℕ) (low i : ℕ) → Met marks row low i → i ≤ low
-      → SweptTo t r ps now reports i → SweptTo t r ps now reports low
-  swept_all now reports marks row low i m h s = let end : i ≡ low = omega (arith, m.under) in subst (SweptTo t r ps now reports) end s
-
   pub all-swept : (row : List ℕ) (now : List Place) (reports : List Report) (i : ℕ) → i ≤ 0 → Looked t r ps row i → SweptTo t r ps now reports i
-      → ◌≡◌ {A = Swept} (record { sound = true; places = now; reports = reports }) (swept t r ps)
+      → ◌≡◌ {A = Option Swept} (Some (record { places = now; reports = reports })) (swept t r ps)
   unfolding swept
   all-swept row now reports i h l s =
       let end : i ≡ 0 = omega arith in
       let a = s.stepped ∙ ap (filled_from (aged t r) ps ps) end ∙ fill-all (aged t r) ps ps in
       let b = s.told ∙ ap (filled_from (report t r) (replicate 16 nothing) ps) end ∙ fill-all (report t r) (replicate 16 nothing) ps in
-      (λ j. record { sound = true; places = a j; reports = b j }) ∙ simp (looked-sound t r ps row i h l)
+      (λ j. Some (record { places = a j; reports = b j })) ∙ simp (looked-sound t r ps row i h l)
 
 pub ruleset sweeping = (none-swept, zero-swept, all-swept)

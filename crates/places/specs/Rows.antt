@@ -1,15 +1,15 @@
 -- The searches over a row of places of any length, from one number up to another (document 01, "Open exchanges"; 001, 6.5), and the eight of each
 -- centre (document 02, Q-11).
 -- Assumes nothing.
-use Rattle.std.specs.Prelude.{ℕ, ◌+◌, ◌*◌, ◌-◌, ◌/◌, ◌%◌, Bool, true, false, not, ◌&&◌, cond, List, map, ltb, get_or, replicate}
+use Rattle.std.specs.Prelude.{ℕ, ◌+◌, ◌*◌, ◌-◌, ◌/◌, ◌%◌, Bool, not, ◌&&◌, cond, List, map, ltb, get_or, Option, Some, None, Result, Ok, Err}
 use Rattle.octets.specs.Searches.{first_fit, any_fits, all_fit}
 use Rattle.place.specs.declared.Place.{Place}
 use Rattle.place.specs.declared.Reply.{Reply}
 use Rattle.place.specs.Rules.{free, is_open, holds, keeps}
 use Rattle.place.specs.Steps.{NOTHING, ticked, fits}
 use Rattle.places.specs.declared.Report.{Report}
-use Rattle.places.specs.declared.Search.{Search}
-use Rattle.places.specs.declared.Search.TheVariants.{Broken, Outside, Nothing, At}
+use Rattle.places.specs.declared.Unfound.{Unfound}
+use Rattle.places.specs.declared.Unfound.TheVariants.{Broken, Outside, Nothing}
 use Rattle.places.specs.declared.Swept.{Swept}
 
 -- the place at a number
@@ -85,15 +85,15 @@ all_sound t r ps = all_fit (λ c. are_sound t r ps (low_of c) (end_of c)) 0 2
 
 -- "STATE, then FULL or STRAY", and "CENTRE, after STATE, for a centre other than the two": what is found among a centre's places, where a search came to
 -- place k, and x is the serial beside it
-unfoldable pub sought : ℕ → ℕ → List Place → ℕ → ℕ → ℕ → Search
-sought t r ps c k x = cond (all_sound t r ps) (cond (ltb c 2) (cond (ltb k (end_of c)) (At k x) Nothing) Outside) Broken
+unfoldable pub sought : ℕ → ℕ → List Place → ℕ → ℕ → ℕ → Result (ℕ × ℕ) Unfound
+sought t r ps c k x = cond (all_sound t r ps) (cond (ltb c 2) (cond (ltb k (end_of c)) (Ok (k, x)) (Err Nothing)) (Err Outside)) (Err Broken)
 
 -- "takes the lowest free place and the first serial, from the next one upward .., that is not open": what a beginning finds
-abbrev pub opening : ℕ → ℕ → List Place → ℕ → ℕ → Search
+abbrev pub opening : ℕ → ℕ → List Place → ℕ → ℕ → Result (ℕ × ℕ) Unfound
 opening t r ps c next = sought t r ps c (lowest_free ps (low_of c) (end_of c)) (serial_for ps (low_of c) (end_of c) next)
 
 -- and what a reply finds
-abbrev pub reached : ℕ → ℕ → List Place → ℕ → ℕ → Reply → Search
+abbrev pub reached : ℕ → ℕ → List Place → ℕ → ℕ → Reply → Result (ℕ × ℕ) Unfound
 reached t r ps c s w = sought t r ps c (fitting ps (low_of c) (end_of c) s w) s
 
 -- what a tick makes of a place
@@ -108,10 +108,6 @@ report t r p = record { outcome = (ticked t r p).outcome; serial = p.serial }
 abbrev pub nothing : Report
 nothing = record { outcome = NOTHING; serial = 0 }
 
--- places that break the rules, as they came
-abbrev pub unswept : List Place → Swept
-unswept ps = record { sound = false; places = ps; reports = replicate 16 nothing }
-
--- "The tick answers all sixteen places.", "a tick serves both"
-unfoldable pub swept : ℕ → ℕ → List Place → Swept
-swept t r ps = cond (all_sound t r ps) (record { sound = true; places = map (aged t r) ps; reports = map (report t r) ps }) (unswept ps)
+-- "The tick answers all sixteen places.", "a tick serves both"; None of places that break the rules
+unfoldable pub swept : ℕ → ℕ → List Place → Option Swept
+swept t r ps = cond (all_sound t r ps) (Some (record { places = map (aged t r) ps; reports = map (report t r) ps })) None

@@ -1,36 +1,30 @@
--- `places::find_fitting` meets its contract: each way out by what the pass told, and each turn by the place that it looked at. Assumes nothing.
-use mathlib.Core.Bool.{not}
-use mathlib.Core.Path.{ap}
+-- `places::find_fitting` meets its contract: each way out by what the pass told and by the place that was looked at. Assumes nothing.
+use native.Mathlib.Omega.{arith}
 use borrow.Author.Rules.{rules}
-use Rattle.places.proofs.Loops.{looking, sought-double, looked-free, looked-open}
-use Rattle.places.proofs.Marks.{positive, met-free, met-open}
-use Rattle.places.proofs.Reaching.{reaching}
+use Rattle.places.proofs.Reaching.{reached-broken, reached-outside, reached-none, reached-at, reach-other, reach-idle}
 use Rattle.places.proofs.find_fitting.Goals as goal
+use Rattle.places.proofs.find_fitting.Goals.{else-row-place-via-then-row-place+else-awaits, else-row-place-via-else-row-place}
 
-pub returns-then-not-is_kept : goal.returns-then-not-is_kept
-returns-then-not-is_kept c = search (looking, positive, rules)
-
-pub returns-then-is_taken : goal.returns-then-is_taken
-returns-then-is_taken c =
-    let above = positive _ _ c.loop-i-test.true in
-    let kept = ap not c.if-not-is_kept.false in
-    sought-double _ _ _ _ _ above c.loop-i.invariant.0 _ c.weigh-weights.ensures c.if-weights-k-ne0.true _ c.is_kept.ensures kept _
-    (c.is_taken.ensures.value, c.is_taken.ensures.serial_bound) _ _ _ c.if-is_taken.true
-
-pub loop-i-preserved-else-is_taken : goal.loop-i-preserved-else-is_taken
-loop-i-preserved-else-is_taken c = (search (looked-open, positive, rules), search (met-open, rules))
-
-pub loop-i-preserved : goal.loop-i-preserved
-loop-i-preserved c = (search (looked-free, positive, rules), search (met-free, rules))
+pub returns-in_err-row : goal.returns-in_err-row
+returns-in_err-row c = search (reached-broken, rules)
 
 pub returns-then-centre-ge2 : goal.returns-then-centre-ge2
-returns-then-centre-ge2 c = search reaching
+returns-then-centre-ge2 c = reached-outside _ _ _ _ _ _ c.in_ok-row.ensures.rows.0 c.if-centre-ge2.true
 
-pub returns-then-from-at : goal.returns-then-from-at
-returns-then-from-at c = search (reaching, rules)
+pub returns-then-awaits : goal.returns-then-awaits
+returns-then-awaits c =
+    let told = c.in_ok-row.ensures.rows in
+    reached-at _ _ _ _ _ _ told.0 c.if-centre-ge2.false _ c.loop-place.invariant _ told.2 (omega arith) (omega arith) _ c.if-row-place.true (omega (arith, c.from.ensures)) _ c.awaits.ensures c.if-awaits.true
 
-pub returns-then-not-awaits : goal.returns-then-not-awaits
-returns-then-not-awaits c = search (reaching, rules)
+pub loop-place-preserved : goal.loop-place-preserved
+loop-place-preserved c =
+    let told = c.in_ok-row.ensures.rows in
+    elim c.else-row-place.branch [
+      | else-row-place-via-then-row-place+else-awaits w ↦
+          reach-idle _ _ _ _ _ _ told.0 c.if-centre-ge2.false _ c.loop-place.invariant _ told.2 (omega arith) (omega arith) _ w.awaits.ensures w.if-awaits.false
+      | else-row-place-via-else-row-place w ↦
+          reach-other _ _ _ _ _ _ told.0 c.if-centre-ge2.false _ c.loop-place.invariant _ told.2 (omega arith) (omega arith) _ w.if-row-place.false (omega (arith, c.from.ensures))
+    ]
 
 pub returns : goal.returns
-returns c = search (reaching, rules)
+returns c = reached-none _ _ _ _ _ _ c.in_ok-row.ensures.rows.0 c.if-centre-ge2.false _ c.loop-place.invariant (omega arith)

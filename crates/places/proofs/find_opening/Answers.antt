@@ -1,38 +1,23 @@
--- `places::find_opening` meets its contract: each way out by what the pass told, and each turn by the place that it looked at. Assumes nothing.
-use mathlib.Core.Bool.{not}
-use mathlib.Core.Path.{ap}
+-- `places::find_opening` meets its contract: each way out by what the pass told and by the place that was looked at. Assumes nothing.
+use native.Mathlib.Omega.{arith}
 use borrow.Author.Rules.{rules}
-use Rattle.places.proofs.Loops.{looking, sought-double, looked-free, looked-open, opened}
-use Rattle.places.proofs.Marks.{positive, met-free, met-open}
+use Rattle.places.proofs.Loops.{opening-broken, opening-outside, opening-full, opening-at, free-on}
 use Rattle.places.proofs.find_opening.Goals as goal
 
-pub returns-then-not-is_kept : goal.returns-then-not-is_kept
-returns-then-not-is_kept c = search (looking, positive, rules)
-
-pub returns-then-is_taken : goal.returns-then-is_taken
-returns-then-is_taken c =
-    let above = positive _ _ c.loop-i-test.true in
-    let kept = ap not c.if-not-is_kept.false in
-    sought-double _ _ _ _ _ above c.loop-i.invariant.0 _ c.weigh-weights.ensures c.if-weights-k-ne0.true _ c.is_kept.ensures kept _
-    (c.is_taken.ensures.value, c.is_taken.ensures.serial_bound) _ _ _ c.if-is_taken.true
-
-pub loop-i-preserved-else-is_taken : goal.loop-i-preserved-else-is_taken
-loop-i-preserved-else-is_taken c = (search (looked-open, positive, rules), search (met-open, rules))
-
-pub loop-i-preserved : goal.loop-i-preserved
-loop-i-preserved c = (search (looked-free, positive, rules), search (met-free, rules))
+pub returns-in_err-row : goal.returns-in_err-row
+returns-in_err-row c = search (opening-broken, rules)
 
 pub returns-then-centre-ge2 : goal.returns-then-centre-ge2
-returns-then-centre-ge2 c = search opened
-
-pub loop-place-init : goal.loop-place-init
-loop-place-init c = search opened
+returns-then-centre-ge2 c = opening-outside _ _ _ _ _ c.in_ok-row.ensures.rows.0 c.if-centre-ge2.true
 
 pub returns-then-not-is_open : goal.returns-then-not-is_open
-returns-then-not-is_open c = search (opened, rules)
+returns-then-not-is_open c =
+    let told = c.in_ok-row.ensures.rows in
+    opening-at _ _ _ _ _ told.0 c.if-centre-ge2.false _ c.loop-place.invariant _ told.1 told.2 _ _ _ c.is_open.ensures (omega arith) c.if-not-is_open.true (omega arith) c.serial_in.ensures
 
 pub loop-place-preserved : goal.loop-place-preserved
-loop-place-preserved c = search (opened, rules)
+loop-place-preserved c =
+    free-on _ _ _ _ c.loop-place.invariant c.is_open.ensures (omega arith) c.if-not-is_open.false
 
 pub returns : goal.returns
-returns c = search (opened, rules)
+returns c = opening-full _ _ _ _ _ c.in_ok-row.ensures.rows.0 c.if-centre-ge2.false _ c.loop-place.invariant (omega arith)

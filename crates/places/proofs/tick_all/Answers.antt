@@ -2,42 +2,53 @@
 use mathlib.Core.Bool.{not}
 use mathlib.Core.Path.{ap}
 use borrow.Author.Rules.{rules}
+use native.Mathlib.Omega.{arith}
 use Rattle.places.proofs.Loops.{looked-none, looked-free, looked-open, sweep-breaks, sweep-double}
-use Rattle.places.proofs.Marks.{last-ends, positive, met-free, met-open}
-use Rattle.places.proofs.Sweeping.{tested-open, sweeping, is-young, is-old, none-swept, older-swept, denied-swept, zero-swept}
+use Rattle.places.proofs.Marks.{positive, met-low, met-marked, met-free, met-open}
+use Rattle.places.proofs.Sweeping.{silent, first-holds, none-swept, open-swept, zero-swept, all-swept}
 use Rattle.places.proofs.tick_all.Goals as goal
+use Rattle.places.proofs.tick_all.Goals.{then-not-is_kept-via-then-not-is_kept, then-not-is_kept-via-else-not-is_kept+then-is_taken}
 
-pub loop-end-init : goal.loop-end-init
-loop-end-init c = ((search (looked-none, rules), search (none-swept, rules)), search last-ends)
+pub is_taken-requires : goal.is_taken-requires
+is_taken-requires c = met-marked _ _ _ _ c.loop-k.invariant.1 c.loop-k-test.true _ (omega arith)
 
 pub returns-then-not-is_kept : goal.returns-then-not-is_kept
-returns-then-not-is_kept c = search (sweep-breaks, positive, rules)
+returns-then-not-is_kept c =
+    let above = positive _ _ c.loop-k-test.true in
+    let own = met-low _ _ _ _ c.loop-k.invariant.1 c.loop-k-test.true in
+    elim c.then-not-is_kept.branch [
+      | then-not-is_kept-via-then-not-is_kept w ↦
+          sweep-breaks _ _ _ _ _ above c.loop-k.invariant.0.0 _ c.weigh-weights.ensures c.if-weights-k-ne0.true _ c.is_kept.ensures (ap not w.if-not-is_kept.true)
+      | then-not-is_kept-via-else-not-is_kept+then-is_taken w ↦
+          sweep-double _ _ _ _ _ above c.loop-k.invariant.0.0 _ c.weigh-weights.ensures c.if-weights-k-ne0.true _ c.is_kept.ensures (ap not w.if-not-is_kept.false)
+          _ _ own (omega arith) _ (w.is_taken.ensures.value, w.is_taken.ensures.serial_bound) w.if-is_taken.true
+    ]
 
-pub returns-then-is_taken : goal.returns-then-is_taken
-returns-then-is_taken c =
-    let above = positive _ _ c.loop-i-test.true in
-    let kept = ap not c.if-not-is_kept.false in
-    sweep-double _ _ _ _ _ above c.loop-i.invariant.0.0 _ c.weigh-weights.ensures c.if-weights-k-ne0.true _ c.is_kept.ensures kept _
-    (c.is_taken.ensures.value, c.is_taken.ensures.serial_bound) _ c.if-is_taken.true c.unswept-then-is_taken.ensures
+pub ticked-step-requires : goal.ticked-step-requires
+ticked-step-requires c = first-holds _ _ _ c.is_kept.ensures c.if-not-is_kept.false
 
-pub loop-i-preserved-then-is_young : goal.loop-i-preserved-then-is_young
-loop-i-preserved-then-is_young c =
-    let above = positive _ _ c.loop-i-test.true in
-    let inv = c.loop-i.invariant in
-    let age = is-young _ _ _ c.is_young.ensures c.if-is_young.true in
-    let open-one = tested-open _ _ _ (search (c.well_formed, rules)) _ _ _ above inv.0.0.few inv.0.1 _ c.is_kept.ensures (ap not c.if-not-is_kept.false) in
-    ((search (looked-open, positive, rules), older-swept _ _ _ _ _ _ open-one _ _ age c.older.ensures c.told.ensures), search (met-open, rules))
+pub loop-centre-init : goal.loop-centre-init
+loop-centre-init c = (looked-none _ _ _, none-swept _ _ _ (search (c.well_formed, rules)) _ (silent _ c.default.ensures))
 
-pub loop-i-preserved-else-is_young : goal.loop-i-preserved-else-is_young
-loop-i-preserved-else-is_young c =
-    let above = positive _ _ c.loop-i-test.true in
-    let inv = c.loop-i.invariant in
-    let age = is-old _ _ _ c.is_young.ensures c.if-is_young.false in
-    let open-one = tested-open _ _ _ (search (c.well_formed, rules)) _ _ _ above inv.0.0.few inv.0.1 _ c.is_kept.ensures (ap not c.if-not-is_kept.false) in
-    ((search (looked-open, positive, rules), denied-swept _ _ _ _ _ _ open-one _ _ age c.denied-step.ensures c.told-else-is_young.ensures), search (met-open, rules))
+pub loop-k-preserved-then-weights-k-ne0 : goal.loop-k-preserved-then-weights-k-ne0
+loop-k-preserved-then-weights-k-ne0 c =
+    let above = positive _ _ c.loop-k-test.true in
+    let own = met-low _ _ _ _ c.loop-k.invariant.1 c.loop-k-test.true in
+    let inv = c.loop-k.invariant.0 in (
+      (
+        looked-open _ _ _ _ _ above inv.0 _ c.weigh-weights.ensures c.if-weights-k-ne0.true _ c.is_kept.ensures (ap not c.if-not-is_kept.false)
+            _ _ own (omega arith) _ (c.is_taken.ensures.value, c.is_taken.ensures.serial_bound) _ c.from.ensures c.if-is_taken.false,
+        open-swept _ _ _ (search (c.well_formed, rules)) _ _ _ above inv.0.few inv.1 _ _ _ _ _ c.ticked-step.ensures (omega arith) (omega arith)
+            (omega (arith, c.from-then-weights-k-ne0.ensures, c.number.ensures)) (omega arith),
+      ),
+      search (met-open, rules),
+    )
 
-pub loop-i-preserved : goal.loop-i-preserved
-loop-i-preserved c = ((search (looked-free, positive, rules), search (zero-swept, positive, rules)), search (met-free, rules))
+pub loop-k-preserved : goal.loop-k-preserved
+loop-k-preserved c = (
+  (search (looked-free, positive, rules), search (zero-swept, positive, rules)),
+  met-free _ _ _ _ c.loop-k.invariant.1 c.loop-k-test.true,
+)
 
 pub returns : goal.returns
-returns c = search (sweeping, rules)
+returns c = all-swept _ _ _ (search (c.well_formed, rules)) _ _ _ _ (omega arith) c.loop-centre.invariant.0 c.loop-centre.invariant.1

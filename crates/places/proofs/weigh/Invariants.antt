@@ -1,10 +1,6 @@
 -- `places::weigh` meets its contract. The loop's invariant: the numbers of the places before i are told. Assumes nothing.
-use Prim.Native.Nat.{◌-◌}
 use Rattle.places.proofs.Loops.{Weighing}
 use Rattle.places.proofs.weigh.Given as goal
 
 abbrev pub invariant-loop-i : goal.invariant-loop-i
 invariant-loop-i l = Weighing l.places l.weights l.i
-
-abbrev pub decreases-loop-i : goal.decreases-loop-i
-decreases-loop-i l = 16 - l.i
