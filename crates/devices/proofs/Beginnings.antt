@@ -18,7 +18,7 @@ use Rattle.devices.specs.declared.Section.{Section}
 use Rattle.devices.specs.Keys.{below, same}
 use Rattle.devices.specs.Sections.{count_at, entry_at, end_of, first_bytes, key_at, rises, entry_of, is_listed, section_tests}
 use Rattle.devices.specs.Tables.{parts_from, system_of, tail_test, judged}
-use Rattle.devices.proofs.Entries.{entry_next, entry-inside, bytes-are}
+use Rattle.devices.proofs.Standing.{entry_next, entry_inside, bytes-are}
 use Rattle.devices.proofs.Good.{Whole, Sound, behind_systems, systems-pass, all-but-tail}
 
 -- a search goes by what its test says in the run
@@ -71,7 +71,7 @@ module _ (s u : List ℕ) where
         fits = omega (arith, end-alike, length-append s u);
         rise = λ k h.
             let l : k < count_at s from = omega (arith, count-alike from counted) in
-            rises-alike k (entry-inside z from k (count_at s from) (length s) l fits) ∙ w.rise k l;
+            rises-alike k (entry_inside z from k (count_at s from) (length s) l fits) ∙ w.rise k l;
       }
 
       pub whole-shorter : Whole z (s ++ u) from → Whole z s from
@@ -80,7 +80,7 @@ module _ (s u : List ℕ) where
         few = omega (arith, w.few, count-alike from counted);
         fits = fits;
         rise = λ k h.
-            sym (rises-alike k (entry-inside z from k (count_at s from) (length s) h fits)) ∙ w.rise k (omega (arith, count-alike from counted));
+            sym (rises-alike k (entry_inside z from k (count_at s from) (length s) h fits)) ∙ w.rise k (omega (arith, count-alike from counted));
       }
 
       pub listed-alike : (x : List ℕ) → is_listed z (s ++ u) from x ≡ is_listed z s from x
@@ -90,7 +90,7 @@ module _ (s u : List ℕ) where
           ap (λ (m : ℕ). ltb (first_fit (λ k. same (key_at z (s ++ u) from k) x) 0 m) m) (count-alike from counted)
           ∙ ap (λ (m : ℕ). ltb m n)
           (first_alike (λ k. same (key_at z (s ++ u) from k) x) (λ k. same (key_at z s from k) x) 0 n
-          (λ k l h. ap (λ (y : List ℕ). same y x) (bytes-alike z from k z.key (omega (arith, entry-inside z from k n (length s) (omega arith) fits)))))
+          (λ k l h. ap (λ (y : List ℕ). same y x) (bytes-alike z from k z.key (omega (arith, entry_inside z from k n (length s) (omega arith) fits)))))
 
     -- a section that does not end inside s is cut there
     section-cut : Whole z (s ++ u) from → length s < end_of z (s ++ u) from → in_order (section_tests z s from) good ≡ refusal CUT 0
@@ -124,7 +124,7 @@ module _ (a b : Section) (keyed-a : a.key ≤ a.entry) (keyed-b : b.key ≤ b.en
       owned k h =
           let p = parts_from a s in
           let l : k < count_at s p = omega (arith, count-alike s u p g.parts.counts) in
-          let inside : entry_at b p k + a.key ≤ length s = omega (arith, entry-inside b p k (count_at s p) (length s) l g.parts.fits) in
+          let inside : entry_at b p k + a.key ≤ length s = omega (arith, entry_inside b p k (count_at s p) (length s) l g.parts.fits) in
           listed-alike s u a 0 keyed-a g.systems.fits (system_of a b (s ++ u) p k)
           ∙ ap (is_listed a s 0) (bytes-alike s u b p k a.key inside)
           ∙ g.owned k l

@@ -6,47 +6,18 @@ use native.Mathlib.Omega.{arith}
 use mathlib.Core.Bool.{true}
 use mathlib.Core.List.{List, ◌++◌}
 use mathlib.Core.Logic.{⊎_elim}
-use mathlib.Core.Path.{◌≡◌, refl, sym, ap, subst, ◌∙◌}
-use Rattle.verdict.specs.declared.Verdict.{Verdict}
+use mathlib.Core.Path.{◌≡◌, refl, ap, subst, ◌∙◌}
 use Rattle.verdict.specs.Orders.{Test, in_order, good, Held, refusing}
-use Rattle.verdict.proofs.Walking.{ordering}
 use Rattle.verdict.proofs.Order.{joined, refusing-append, held-left, held-right, held-append}
 use Rattle.devices.specs.Sections.{each_entry}
 
--- a loop over n entries that has come to entry i: the tests from there on decide
-pub record Deciding (f : ℕ → List Test) (n i : ℕ) : Type 0 where
-  pub same : in_order (each_entry f i (n - i)) good ≡ in_order (each_entry f 0 n) good
-
-pub all-decide : (f : ℕ → List Test) (n : ℕ) → Deciding f n 0
-all-decide f n =
-    let all : n - 0 ≡ n = omega arith in
-    record { same = ap (λ (m : ℕ). in_order (each_entry f 0 m) good) all }
-
-module _ (f : ℕ → List Test) (n i : ℕ) (d : Deciding f n i) where
-  -- what the tests behind entry i come to
-  behind : Verdict
-  behind = in_order (each_entry f (i + 1) (n - (i + 1))) good
-
-  step : i < n → in_order (each_entry f i (n - i)) good ≡ in_order (f i) behind
-  unfolding each_entry behind
-  step h =
-      let left : n - i ≡ suc (n - (i + 1)) = omega arith in
-      let one : each_entry f i (n - i) ≡ f i ++ each_entry f (i + 1) (n - (i + 1)) = simp (left, add-one i) in
-      ap (λ (ts : List Test). in_order ts good) one ∙ joined (f i) (each_entry f (i + 1) (n - (i + 1))) good
-
-  -- an entry is refused, all are passed, or one is
-  pub refused-here : (v : Verdict) → i < n → ((w : Verdict) → v ≡ in_order (f i) w) → v ≡ in_order (each_entry f 0 n) good
-  refused-here v h e = e behind ∙ sym (step h) ∙ d.same
-
-  pub none_left : (v : Verdict) → n ≤ i → v ≡ good → v ≡ in_order (each_entry f 0 n) good
-  unfolding each_entry in_order
-  none_left v h e = let none : n - i ≡ 0 = omega arith in e ∙ sym (simp none) ∙ d.same
-
-  pub next-decides : i < n → ((w : Verdict) → w ≡ in_order (f i) w) → Deciding f n (i + 1)
-  unfolding behind
-  next-decides h e = record { same = e behind ∙ sym (step h) ∙ d.same }
-
-pub ruleset deciding = (ordering, all-decide, refused-here, none_left, next-decides)
+-- of a loop that has come to entry k of n: the tests of that entry, and then those behind it
+pub turn : (f : ℕ → List Test) (k n : ℕ) → k < n → in_order (each_entry f k (n - k)) good ≡ in_order (f k) (in_order (each_entry f (k + 1) (n - (k + 1))) good)
+unfolding each_entry
+turn f k n h =
+    let left : n - k ≡ suc (n - (k + 1)) = omega arith in
+    let one : each_entry f k (n - k) ≡ f k ++ each_entry f (k + 1) (n - (k + 1)) = simp (left, add-one k) in
+    ap (λ (ts : List Test). in_order ts good) one ∙ joined (f k) (each_entry f (k + 1) (n - (k + 1))) good
 
 -- where each entry's tests refuse, all do
 pub refusing-each : (f : ℕ → List Test) → ((k : ℕ) → refusing (f k) ≡ true) → (i n : ℕ) → refusing (each_entry f i n) ≡ true

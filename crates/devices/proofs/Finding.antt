@@ -1,29 +1,24 @@
 -- One law for each answer of finding a part, from what the judge and the search told. Assumes nothing.
-use Prim.Native.Nat.{ℕ, ◌+◌, ◌-◌, ◌≤◌, ◌<◌}
-use native.Mathlib.Nat.{not-suc-le-zero}
-use native.Mathlib.Omega.{arith}
-use mathlib.Core.Bool.{Bool, true, false, not, ◌&&◌, cond, false≢true, and-eq-true_iff}
+use Prim.Native.Nat.{ℕ, ◌+◌, ◌<◌}
+use mathlib.Core.Bool.{Bool, true, false, cond, false≢true}
 use mathlib.Core.List.{List, [], ◌∷◌, ◌++◌}
 use mathlib.Core.Path.{◌≡◌, refl, sym, ap, subst, ◌∙◌}
-use borrow.Author.Tests.{ltb-true}
+use borrow.Author.Tests.{lt-ltb}
 use lib.Dec.{ltb}
-use lib.ListN.{length}
-use Rattle.octets.specs.Searches.{first_refused}
-use Rattle.octets.proofs.Flags.{on, off, by-test}
+use Rattle.octets.proofs.Flags.{by-test}
 use Rattle.verdict.specs.declared.Verdict.{Verdict}
 use Rattle.verdict.specs.declared.Part.{Part}
 use Rattle.verdict.specs.Orders.{in_order, refusal, good, is_good, refusing, no_part, part_by}
-use Rattle.verdict.specs.Refusals.{UNLISTED}
+use Rattle.verdict.specs.declared.Refused.{Refused}
+use Rattle.verdict.specs.Refusals.{UNLISTED, number_of}
 use Rattle.verdict.proofs.Order.{passed, failed, good-is, joined-stays, joined-on, refusing-append}
+use Rattle.verdict.proofs.Told.{not-good}
 use Rattle.devices.specs.declared.Section.{Section}
 use Rattle.devices.specs.declared.Judgement.{Judgement}
-use Rattle.devices.specs.Keys.{below}
-use Rattle.devices.specs.Sections.{count_at, entry_at, key_at, rises, entry_of, is_listed}
-use Rattle.devices.specs.Tables.{parts_from, system_tests, systems_tests, part_tests, parts_tests, tail_test, table_tests, judged, refused_by, judgement, listed_test, part_at, found_place}
-use Rattle.devices.proofs.Entries.{entry-inside}
+use Rattle.devices.specs.declared.table.Table.{Table}
+use Rattle.devices.specs.Sections.{count_at, entry_at, rises, entry_of, is_listed}
+use Rattle.devices.specs.Tables.{of_systems, of_parts, parts_from, system_tests, systems_tests, part_tests, parts_tests, tail_test, table_tests, judged, refused_by, judgement, listed_test, part_at, found_place}
 use Rattle.devices.proofs.Each.{refusing-each}
-use Rattle.devices.proofs.Rising.{Sought, sought}
-use Rattle.devices.proofs.Merging.{listed-is, entry-is}
 use Rattle.devices.proofs.Good.{good-sound}
 
 module _ (a b : Section) (t : List ℕ) where
@@ -51,6 +46,10 @@ module _ (a b : Section) (t : List ℕ) where
       by-test true e = (refl, λ g. (refl, refl))
       by-test false e = (refl, λ g. absurd (false≢true (sym e ∙ g)))
 
+  pub refused-judgement : (r : Refused) → refusal (number_of r.refusal) r.place ≡ judged a b t → refused_by (refusal (number_of r.refusal) r.place) ≡ judgement a b t
+  unfolding judgement
+  refused-judgement r told = ap refused_by told ∙ sym (simp (ap is_good (sym told) ∙ not-good r.refusal r.place))
+
   pub judgement-told : (j : Judgement) → j ≡ judgement a b t → (j.verdict ≡ judged a b t) × (is_good (judged a b t) ≡ true → (j.systems ≡ count_at t 0) × (j.parts ≡ count_at t (parts_from a t)))
   unfolding Told
   judgement-told j e = subst Told (sym e) told
@@ -60,6 +59,9 @@ module _ (a b : Section) (t : List ℕ) where
     pub place-refused : is_good (judged a b t) ≡ false → no_part (judged a b t) ≡ found_place a b t x
     unfolding found_place judged part_by
     place-refused e = simp (joined-stays (table_tests a b t) (listed_test a b t x ∷ []) good e, e)
+
+    pub refused-place : (r : Refused) → refusal (number_of r.refusal) r.place ≡ judged a b t → no_part (refusal (number_of r.refusal) r.place) ≡ found_place a b t x
+    refused-place r told = ap no_part told ∙ place-refused (ap is_good (sym told) ∙ not-good r.refusal r.place)
 
     past : is_good (judged a b t) ≡ true → in_order (table_tests a b t ++ (listed_test a b t x ∷ [])) good ≡ in_order (listed_test a b t x ∷ []) good
     unfolding judged
@@ -89,98 +91,49 @@ module _ (a b : Section) (t : List ℕ) where
         (λ g. ap (λ (v : Verdict). part_by v (part_at a b t x + b.key) (part_at a b t x + b.entry)) (past g) ∙ sym (simp g))
         (λ g. sym (place-refused g) ∙ sym (simp g))
 
--- what is known of a table that was judged good, whose parts begin at `from`
-pub record Judged (a b : Section) (t : List ℕ) (j : Judgement) (from : ℕ) : Type 0 where
-  pub verdict : j.verdict ≡ good
-  pub passes : is_good (judged a b t) ≡ true
-  pub starts : from ≡ parts_from a t
-  pub counted : j.parts ≡ count_at t from
-  pub rise : (k : ℕ) → k < j.parts → rises b t from k ≡ true
-  pub ends : entry_at b from j.parts ≤ length t
+-- what is told by a table w that was read of the bytes t
+module _ (w : Table) (t : List ℕ) (bytes : w.systems.table.now ≡ t) where
+  of-parts : {A : Type 0} (f : Section → List ℕ → ℕ → A) → f w.parts.section w.parts.table.now w.parts.from ≡ f of_parts t (parts_from of_systems t)
+  of-parts f = λ i. f (w.parts_section i) ((w.one_table ∙ bytes) i) ((w.parts_follow ∙ ap (parts_from of_systems) bytes) i)
 
--- what is known where the search for key x ended at entry m, which has it
-pub record Listed (a b : Section) (t x : List ℕ) (j : Judgement) (from m : ℕ) : Type 0 where
-  pub known : Judged a b t j from
-  pub listed : is_listed b t (parts_from a t) x ≡ true
-  pub inside : entry_at b from m + b.entry ≤ length t
-  pub there : entry_of b t (parts_from a t) x ≡ m
+  parts-counted : w.parts.count ≡ count_at t (parts_from of_systems t)
+  parts-counted = w.parts.counted ∙ of-parts (λ z. count_at)
 
--- the judge's answer j, and g whether its verdict was found good
-module _ (a b : Section) (t : List ℕ) (j : Judgement) (g : Bool) (e : j ≡ judgement a b t) (is : g ≡ is_good j.verdict) where
-  verdict-is : j.verdict ≡ judged a b t
-  verdict-is = (judgement-told a b t j e).0
+  systems-counted : w.systems.count ≡ count_at t 0
+  systems-counted = w.systems.counted ∙ (λ i. count_at (bytes i) (w.systems_from i))
 
-  pub found-refused : (x : List ℕ) (p : Part) → not g ≡ true → p ≡ no_part j.verdict → p ≡ found_place a b t x
-  found-refused x p f r = r ∙ ap no_part verdict-is ∙ place-refused a b t x (ap is_good (sym verdict-is) ∙ off is f)
+  module _ (passed : good ≡ judged of_systems of_parts t) where
+    pub judgement-passed : ◌≡◌ {A = Judgement} (record { verdict = good; systems = w.systems.count; parts = w.parts.count }) (judgement of_systems of_parts t)
+    unfolding judgement
+    judgement-passed = (λ i. record { verdict = good; systems = systems-counted i; parts = parts-counted i }) ∙ sym (simp (sym passed))
 
-  module _ (f : not g ≡ false) where
-    passed-it : is_good (judged a b t) ≡ true
-    passed-it = ap is_good (sym verdict-is) ∙ on is f
+    pub parts-rise : (k : ℕ) → k < w.parts.count → rises w.parts.section w.parts.table.now w.parts.from k ≡ true
+    parts-rise k h =
+        of-parts (λ z u from. rises z u from k)
+        ∙ (good-sound of_systems of_parts t (ap is_good (sym passed))).parts.rise k (subst (λ (n : ℕ). k < n) parts-counted h)
 
-    counts : (j.systems ≡ count_at t 0) × (j.parts ≡ count_at t (parts_from a t))
-    counts = (judgement-told a b t j e).1 passed-it
+    module _ (x : List ℕ) where
+      pub part-unlisted : is_listed w.parts.section w.parts.table.now w.parts.from x ≡ false → no_part (refusal UNLISTED 0) ≡ found_place of_systems of_parts t x
+      part-unlisted none = place-unlisted of_systems of_parts t x (ap is_good (sym passed)) (sym (of-parts (λ z u from. is_listed z u from x)) ∙ none)
 
-    pub systems-end : entry_at a 0 j.systems ≤ length t
-    systems-end = subst (λ (n : ℕ). entry_at a 0 n ≤ length t) (sym counts.0) (good-sound a b t passed-it).systems.fits
-
-    pub judged-good : (from : ℕ) → from ≡ entry_at a 0 j.systems → Judged a b t j from
-    judged-good from begins =
-        let s = good-sound a b t passed-it in
-        let p : from ≡ parts_from a t = begins ∙ ap (entry_at a 0) counts.0 in
-        record {
-          verdict = verdict-is ∙ good-one a b t passed-it;
-          passes = passed-it;
-          starts = p;
-          counted = counts.1 ∙ ap (count_at t) (sym p);
-          rise = λ k h. subst (λ (q : ℕ). rises b t q k ≡ true) (sym p) (s.parts.rise k (subst (λ (n : ℕ). k < n) counts.1 h));
-          ends =
-              subst (λ (q : ℕ). entry_at b q j.parts ≤ length t) (sym p)
-              (subst (λ (n : ℕ). entry_at b (parts_from a t) n ≤ length t) (sym counts.1) s.parts.fits);
-        }
-
--- the search for key x ended at entry m, and r answers whether that entry has it
-module _ (a b : Section) (t x y : List ℕ) (j : Judgement) (from m : ℕ) (r : Bool) (k : Judged a b t j from) (key : y ≡ x)
-    (ended : m ≡ first_refused (λ i. below (key_at b t from i) y) 0 (j.parts - 0))
-    (asked : r ≡ ltb m j.parts && not (below y (key_at b t from m))) where
-  reached : Sought (key_at b t from) j.parts x m
-  reached =
-      subst (Sought (key_at b t from) j.parts x) (sym (ended ∙ ap (λ (z : List ℕ). first_refused (λ i. below (key_at b t from i) z) 0 (j.parts - 0)) key))
-      (sought (key_at b t from) j.parts x 0 (omega arith) (λ i h. absurd (not-suc-le-zero h)))
-
-  has_key : r ≡ ltb m j.parts && not (below x (key_at b t from m))
-  has_key = asked ∙ ap (λ (z : List ℕ). ltb m j.parts && not (below z (key_at b t from m))) key
-
-  is_listed_lem : is_listed b t (parts_from a t) x ≡ r
-  is_listed_lem =
-      ap (λ (p : ℕ). is_listed b t p x) (sym k.starts)
-      ∙ sym (has_key ∙ listed-is b t from j.parts k.counted k.rise x m reached)
-
-  pub unlisted : (v : Verdict) (p : Part) → not r ≡ true → v ≡ refusal UNLISTED 0 → p ≡ no_part v → p ≡ found_place a b t x
-  unlisted v p f u e = e ∙ ap no_part u ∙ place-unlisted a b t x k.passes (off (sym is_listed_lem) f)
-
-  pub listed-there : not r ≡ false → Listed a b t x j from m
-  listed-there f =
-      let yes : ltb m j.parts && not (below x (key_at b t from m)) ≡ true = on has_key f in
-      record {
-        known = k;
-        listed = on (sym is_listed_lem) f;
-        inside =
-            entry-inside b from m j.parts (length t)
-            (ltb-true m j.parts ((and-eq-true_iff (ltb m j.parts) (not (below x (key_at b t from m)))).0 yes).0) k.ends;
-        there =
-            ap (λ (p : ℕ). entry_of b t p x) (sym k.starts) ∙ entry-is b t from j.parts k.counted k.rise x m reached yes;
-      }
-
-pub found-there : (a b : Section) (t x : List ℕ) (j : Judgement) (from m at : ℕ) (p : Part) → Listed a b t x j from m → at ≡ entry_at b from m
-    → p.verdict ≡ j.verdict → p.from ≡ at + b.key → p.to ≡ at + b.entry → p ≡ found_place a b t x
-found-there a b t x j from m at p l stands u v w =
-    let k = l.known in
-    let s : at ≡ part_at a b t x = stands ∙ ap (λ (q : ℕ). entry_at b q m) k.starts ∙ ap (entry_at b (parts_from a t)) (sym l.there) in
-    (λ i. record {
-      verdict = (u ∙ k.verdict) i;
-      from = (v ∙ ap (λ (q : ℕ). q + b.key) s) i;
-      to = (w ∙ ap (λ (q : ℕ). q + b.entry) s) i;
-    })
-    ∙ place-listed a b t x k.passes l.listed
-
-pub ruleset finding = (found-refused, systems-end, judged-good, unlisted, listed-there, found-there)
+      pub part-found : (k : ℕ) → k < w.parts.count → entry_of w.parts.section w.parts.table.now w.parts.from x ≡ k
+          → ◌≡◌ {A = Part}
+          (record {
+            verdict = good;
+            from = entry_at w.parts.section w.parts.from k + w.parts.section.key;
+            to = entry_at w.parts.section w.parts.from k + w.parts.section.entry;
+          })
+          (found_place of_systems of_parts t x)
+      part-found k h e =
+          let there : entry_of of_parts t (parts_from of_systems t) x ≡ k = sym (of-parts (λ z u from. entry_of z u from x)) ∙ e in
+          let few : k < count_at t (parts_from of_systems t) = subst (λ (n : ℕ). k < n) parts-counted h in
+          of-parts (λ z u from. record { verdict = good; from = entry_at z from k + z.key; to = entry_at z from k + z.entry })
+          ∙ ap
+          (λ (j : ℕ). record {
+            verdict = good;
+            from = entry_at of_parts (parts_from of_systems t) j + of_parts.key;
+            to = entry_at of_parts (parts_from of_systems t) j + of_parts.entry;
+          })
+          (sym there)
+          ∙ place-listed of_systems of_parts t x (ap is_good (sym passed))
+          (ap (λ (j : ℕ). ltb j (count_at t (parts_from of_systems t))) there ∙ lt-ltb k (count_at t (parts_from of_systems t)) few)

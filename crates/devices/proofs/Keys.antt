@@ -1,182 +1,110 @@
--- The dictionary order on keys is a strict total order, and the turns of the loop that compares two keys.
--- By induction on the bytes. Assumes nothing.
-use Prim.Native.Nat.{ℕ, zero, suc, ◌+◌, ◌≤◌, ◌<◌}
-use native.Mathlib.Numerals.{add-one}
+-- The dictionary order on keys is the library's order of lists, so what is known of that is known of it. Assumes nothing.
+use Prim.Native.Nat.{ℕ, zero, suc}
 use native.Mathlib.Omega.{arith}
-use mathlib.Core.Bool.{Bool, true, false, ◌&&◌, true≢false, false≢true}
+use mathlib.Core.Bool.{true, false, true≢false, false≢true}
 use mathlib.Core.List.{List, [], ◌∷◌}
 use mathlib.Core.Path.{◌≡◌, refl, sym, ap, ◌∙◌}
-use borrow.Author.Tests.{lt-ltb, le-ltb, eq-eqb, ne_eqb, ltb-true, ltb-false, eqb-true}
-use lib.Dec.{ltb, eqb}
-use lib.ListN.{length, get_or, take, drop, drop_of_length-le}
-use lib.Seq.{drop-cons}
+use lib.ListN.{take}
+use Rattle.std.specs.declared.cmp.Ordering.{Ordering}
+use Rattle.std.specs.declared.cmp.Ordering.TheVariants.{Less, Equal, Greater}
+use Rattle.std.specs.Cmp.Lexicographic.{slice_cmp}
+use Rattle.std.specs.Cmp.{IsTotalOrder}
+use Rattle.std.specs.Ordering.{nat_cmp, ordering_then, ordering_reverse, is_lt, is_eq, is_gt}
+use Rattle.std.proofs.lemmas.Bool.Decides.{nat_tests}
+use Rattle.std.proofs.lemmas.Cmp.{same_from_slice_cmp, nat_list_cmp_total, tied_itself}
+use Rattle.std.proofs.lemmas.Map.Lookups.{exact_bytes}
+use Rattle.octets.proofs.Flags.{by-test}
 use Rattle.devices.specs.Keys.{below, same}
 
--- one byte further: it is less, it is more, or it is the same and the rest decides
-module _ (x y : ℕ) (xs ys : List ℕ) where
-  pub head-less : x < y → below (x ∷ xs) (y ∷ ys) ≡ true
-  unfolding below
-  head-less h = simp (lt-ltb x y h)
+abbrev compared : List ℕ → List ℕ → Ordering
+compared = slice_cmp nat_cmp
 
-  pub head_more : y < x → below (x ∷ xs) (y ∷ ys) ≡ false
-  unfolding below
-  head_more h = simp (le-ltb x y (omega arith), ne_eqb x y (λ e. omega arith))
+order : IsTotalOrder compared
+order = nat_list_cmp_total
 
-  pub head-same : x ≡ y → below (x ∷ xs) (y ∷ ys) ≡ below xs ys
-  unfolding below
-  head-same e = simp (le-ltb x y (omega arith), eq-eqb x y e)
+-- the two tests of keys are what a comparison tells
+pub below_cmp : (x y : List ℕ) (o : Ordering) → o ≡ slice_cmp nat_cmp x y → is_lt o ≡ below x y
+unfolding below
+below_cmp = same_from_slice_cmp nat_cmp is_lt below refl (λ _ _. refl) (λ _ _. refl) (λ x y xs ys o h. grind (arith, nat_tests))
 
--- which of the three it is
-data Heads (x y : ℕ) : Type 0 where
-  less : x < y → Heads x y
-  more : y < x → Heads x y
-  even : x ≡ y → Heads x y
+same_cmp : (x y : List ℕ) (o : Ordering) → o ≡ slice_cmp nat_cmp x y → is_eq o ≡ same x y
+unfolding same
+same_cmp = same_from_slice_cmp nat_cmp is_eq same refl (λ _ _. refl) (λ _ _. refl) (λ x y xs ys o h. grind (arith, nat_tests))
 
-heads : (x y : ℕ) → Heads x y
-heads x y = by-test (ltb x y) refl (ltb y x) refl
+-- what each answer of a comparison tells
+pub cmp_below : (x y : List ℕ) → slice_cmp nat_cmp x y ≡ Less → below x y ≡ true
+cmp_below x y e = sym (below_cmp x y Less (sym e))
+
+pub cmp_same : (x y : List ℕ) → slice_cmp nat_cmp x y ≡ Equal → x ≡ y
+cmp_same = exact_bytes
+
+pub cmp_above : (x y : List ℕ) → slice_cmp nat_cmp x y ≡ Greater → below y x ≡ true
+cmp_above x y e = cmp_below y x (order.antisymm y x ∙ ap ordering_reverse e)
+
+below-cmp : (x y : List ℕ) → below x y ≡ true → compared x y ≡ Less
+below-cmp x y p = by-answer (compared x y) (below_cmp x y (compared x y) refl ∙ p)
   where
-    by-test : (a : Bool) → ltb x y ≡ a → (b : Bool) → ltb y x ≡ b → Heads x y
-    by-test true e b f = less (ltb-true x y e)
-    by-test false e true f = more (ltb-true y x f)
-    by-test false e false f = even (omega (arith, ltb-false x y e, ltb-false y x f))
+    by-answer : (o : Ordering) → is_lt o ≡ true → o ≡ Less
+    by-answer Less e = refl
+    by-answer Equal e = absurd (false≢true e)
+    by-answer Greater e = absurd (false≢true e)
 
 -- nothing stands below itself
 pub below_self : (x : List ℕ) → below x x ≡ false
-unfolding below
-below_self [] = refl
-below_self (a ∷ x) = head-same a a x x refl ∙ below_self x
+below_self x = sym (below_cmp x x Equal (sym (tied_itself order x)))
 
 pub below-trans : (x y z : List ℕ) → below x y ≡ true → below y z ≡ true → below x z ≡ true
-unfolding below
-below-trans [] [] z p q = absurd (false≢true p)
-below-trans [] (b ∷ y) [] p q = absurd (false≢true q)
-below-trans [] (b ∷ y) (c ∷ z) p q = refl
-below-trans (a ∷ x) [] z p q = absurd (false≢true p)
-below-trans (a ∷ x) (b ∷ y) [] p q = absurd (false≢true q)
-below-trans (a ∷ x) (b ∷ y) (c ∷ z) p q = cases (heads a b) (heads b c) (below-trans x y z)
-  where
-    cases : Heads a b → Heads b c → (below x y ≡ true → below y z ≡ true → below x z ≡ true) → below (a ∷ x) (c ∷ z) ≡ true
-    cases (less h) (less k) ih = head-less a c x z (omega arith)
-    cases (less h) (even k) ih = head-less a c x z (omega arith)
-    cases (less h) (more k) ih = absurd (false≢true (sym (head_more b c y z k) ∙ q))
-    cases (even h) (less k) ih = head-less a c x z (omega arith)
-    cases (even h) (even k) ih = head-same a c x z (h ∙ k) ∙ ih (sym (head-same a b x y h) ∙ p) (sym (head-same b c y z k) ∙ q)
-    cases (even h) (more k) ih = absurd (false≢true (sym (head_more b c y z k) ∙ q))
-    cases (more h) k ih = absurd (false≢true (sym (head_more a b x y h) ∙ p))
+below-trans x y z p q = cmp_below x z (order.trans x y z (below-cmp x y p) (below-cmp y z q))
 
 -- of two different keys one stands below the other
 pub below-neither : (x y : List ℕ) → below x y ≡ false → below y x ≡ false → x ≡ y
-unfolding below
-below-neither [] [] p q = refl
-below-neither [] (b ∷ y) p q = absurd (true≢false p)
-below-neither (a ∷ x) [] p q = absurd (true≢false q)
-below-neither (a ∷ x) (b ∷ y) p q = cases (heads a b) (below-neither x y)
+below-neither x y p q = by-answer (compared x y) refl
   where
-    cases : Heads a b → (below x y ≡ false → below y x ≡ false → x ≡ y) → a ∷ x ≡ b ∷ y
-    cases (less h) ih = absurd (true≢false (sym (head-less a b x y h) ∙ p))
-    cases (more h) ih = absurd (true≢false (sym (head-less b a y x h) ∙ q))
-    cases (even h) ih =
-        let r : x ≡ y = ih (sym (head-same a b x y h) ∙ p) (sym (head-same b a y x (sym h)) ∙ q) in
-        cc
-
-pub below-not-back : (x y : List ℕ) → below x y ≡ true → below y x ≡ false
-below-not-back x y p = by-test (below y x) refl
-  where
-    by-test : (b : Bool) → below y x ≡ b → below y x ≡ false
-    by-test true e = absurd (false≢true (sym (below_self x) ∙ below-trans x y x p e))
-    by-test false e = e
+    by-answer : (o : Ordering) → compared x y ≡ o → x ≡ y
+    by-answer Less e = absurd (true≢false (sym (cmp_below x y e) ∙ p))
+    by-answer Equal e = cmp_same x y e
+    by-answer Greater e = absurd (true≢false (sym (cmp_above x y e) ∙ q))
 
 -- what stands below a key stands below every key that is not below it
 pub below_up : (x y z : List ℕ) → below x y ≡ true → below z y ≡ false → below x z ≡ true
-below_up x y z p q = by-test (below y z) refl
-  where
-    by-test : (b : Bool) → below y z ≡ b → below x z ≡ true
-    by-test true e = below-trans x y z p e
-    by-test false e = ap (below x) (sym (below-neither y z e q)) ∙ p
+below_up x y z p q =
+    by-test (below y z) (λ e. below-trans x y z p e) (λ e. ap (below x) (sym (below-neither y z e q)) ∙ p)
 
 -- the first bytes of keys that rise do not fall
 pub below-take : (n : ℕ) (x y : List ℕ) → below x y ≡ true → below (take n y) (take n x) ≡ false
-unfolding below
-below-take zero x y p = refl
-below-take (suc n) x [] p = by-list x p
+below-take n x y p =
+    by-test (below (take n y) (take n x))
+    (λ e. absurd (true≢false (sym (ap is_gt (order.antisymm (take n x) (take n y) ∙ ap ordering_reverse (below-cmp (take n y) (take n x) e))) ∙ not-above n x y (below-cmp x y p))))
+    (λ e. e)
   where
-    by-list : (x : List ℕ) → below x [] ≡ true → below [] (take (suc n) x) ≡ false
-    by-list [] p = refl
-    by-list (a ∷ x) p = absurd (false≢true p)
-below-take (suc n) [] (b ∷ y) p = refl
-below-take (suc n) (a ∷ x) (b ∷ y) p = cases (heads a b) (below-take n x y)
-  where
-    cases : Heads a b → (below x y ≡ true → below (take n y) (take n x) ≡ false) → below (b ∷ take n y) (a ∷ take n x) ≡ false
-    cases (less h) ih = head_more b a (take n y) (take n x) h
-    cases (more h) ih = absurd (false≢true (sym (head_more a b x y h) ∙ p))
-    cases (even h) ih = head-same b a (take n y) (take n x) (sym h) ∙ ih (sym (head-same a b x y h) ∙ p)
+    not-above : (n : ℕ) (x y : List ℕ) → compared x y ≡ Less → is_gt (compared (take n x) (take n y)) ≡ false
+    not-above zero x y e = refl
+    not-above (suc n) [] [] e = refl
+    not-above (suc n) [] (b ∷ y) e = refl
+    not-above (suc n) (a ∷ x) [] e = absurd (false≢true (ap is_lt e))
+    not-above (suc n) (a ∷ x) (b ∷ y) e = by-answer (nat_cmp a b) e (not-above n x y)
+      where
+        by-answer : (o : Ordering) → ordering_then o (compared x y) ≡ Less → (compared x y ≡ Less → is_gt (compared (take n x) (take n y)) ≡ false)
+            → is_gt (ordering_then o (compared (take n x) (take n y))) ≡ false
+        by-answer Less e ih = refl
+        by-answer Equal e ih = ih e
+        by-answer Greater e ih = absurd (false≢true (ap is_lt e))
 
 -- the same bytes are equal, and equal ones the same
 pub same_self : (x : List ℕ) → same x x ≡ true
-unfolding same
-same_self [] = refl
-same_self (a ∷ x) = simp (eq-eqb a a refl) (same_self x)
+same_self x = sym (same_cmp x x Equal (sym (tied_itself order x)))
 
 pub same_true : (x y : List ℕ) → same x y ≡ true → x ≡ y
-unfolding same
-same_true [] [] p = refl
-same_true [] (b ∷ y) p = absurd (false≢true p)
-same_true (a ∷ x) [] p = absurd (false≢true p)
-same_true (a ∷ x) (b ∷ y) p = by-test (eqb a b) refl p (same_true x y)
+same_true x y p = by-answer (compared x y) refl
   where
-    by-test : (e : Bool) → eqb a b ≡ e → e && same x y ≡ true → (same x y ≡ true → x ≡ y) → a ∷ x ≡ b ∷ y
-    by-test true e p ih = let h = eqb-true a b e in let r = ih p in cc
-    by-test false e p ih = absurd (false≢true p)
+    by-answer : (o : Ordering) → compared x y ≡ o → x ≡ y
+    by-answer Less e = absurd (false≢true (same_cmp x y Less (sym e) ∙ p))
+    by-answer Equal e = cmp_same x y e
+    by-answer Greater e = absurd (false≢true (same_cmp x y Greater (sym e) ∙ p))
 
 pub differ : (x y : List ℕ) → (x ≡ y → ⊥) → same x y ≡ false
-differ x y n = by-test (same x y) refl
-  where
-    by-test : (b : Bool) → same x y ≡ b → same x y ≡ false
-    by-test true e = absurd (n (same_true x y e))
-    by-test false e = e
+differ x y n = by-test (same x y) (λ e. absurd (n (same_true x y e))) (λ e. e)
 
 -- what stands below differs
 pub below-differ : (x y : List ℕ) → below x y ≡ true → same x y ≡ false
-below-differ x y p = differ x y (λ e. true≢false (sym p ∙ ap (below x) (sym e) ∙ below_self x))
-
--- a loop that has come to byte i of both: what is left of them decides
-pub record Level (x y : List ℕ) (i : ℕ) : Type 0 where
-  pub rest : below (drop i x) (drop i y) ≡ below x y
-
-pub level-first : (x y : List ℕ) → Level x y 0
-level-first x y = record { rest = refl }
-
-module _ (x y : List ℕ) (i : ℕ) (l : Level x y i) where
-  pub level-end : length y ≤ i → false ≡ below x y
-  unfolding below
-  level-end h = sym (simp (drop_of_length-le y h) (none (drop i x))) ∙ l.rest
-    where
-      none : (z : List ℕ) → below z [] ≡ false
-      none [] = refl
-      none (a ∷ z) = refl
-
-  module _ (there : i < length y) where
-    y-is : drop i y ≡ get_or y i 0 ∷ drop (suc i) y
-    y-is = drop-cons y i 0 there
-
-    pub level-short : length x ≤ i → true ≡ below x y
-    unfolding below
-    level-short h = sym (simp (drop_of_length-le x h, y-is)) ∙ l.rest
-
-    module _ (here : i < length x) where
-      x-is : drop i x ≡ get_or x i 0 ∷ drop (suc i) x
-      x-is = drop-cons x i 0 here
-
-      pub level-less : get_or x i 0 < get_or y i 0 → true ≡ below x y
-      level-less h = sym (simp (x-is, y-is) (head-less (get_or x i 0) (get_or y i 0) (drop (suc i) x) (drop (suc i) y) h)) ∙ l.rest
-
-      pub level-more : get_or y i 0 < get_or x i 0 → false ≡ below x y
-      level-more h = sym (simp (x-is, y-is) (head_more (get_or x i 0) (get_or y i 0) (drop (suc i) x) (drop (suc i) y) h)) ∙ l.rest
-
-      pub level-next : get_or y i 0 ≤ get_or x i 0 → get_or x i 0 ≤ get_or y i 0 → Level x y (i + 1)
-      level-next h k =
-          let on : below (drop i x) (drop i y) ≡ below (drop (i + 1) x) (drop (i + 1) y)
-          = simp (x-is, y-is, add-one i) (head-same (get_or x i 0) (get_or y i 0) (drop (suc i) x) (drop (suc i) y) (omega arith)) in
-          record { rest = sym on ∙ l.rest }
-
-pub ruleset comparing = (level-first, level-end, level-short, level-less, level-more, level-next)
+below-differ x y p = sym (same_cmp x y Less (sym (below-cmp x y p)))

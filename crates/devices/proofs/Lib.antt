@@ -1,9 +1,7 @@
 pub mod Keys
-pub mod Entries
+pub mod Standing
 pub mod Each
-pub mod Seeking
 pub mod Rising
-pub mod Counting
 pub mod Merging
 pub mod Stages
 pub mod Good
@@ -12,3 +10,4 @@ pub mod Beginnings
 pub mod Limits
 pub mod Theorems
 pub mod Examples
+pub mod Told

@@ -1,79 +1,78 @@
--- A key sought in entries that rise: the first entry that does not stand below it either has it, or none has. Assumes nothing.
-use Prim.Native.Nat.{ℕ, ◌+◌, ◌-◌, ◌≤◌, ◌<◌}
+-- A key sought in a section whose entries rise, from an entry on before which all stand below it: the first entry that does not stand
+-- below it either has it, or none has. Assumes nothing.
+use Prim.Native.Nat.{ℕ, ◌+◌, ◌≤◌, ◌<◌}
 use native.Mathlib.Nat.{eq-or-lt_of_le, zero-add}
 use native.Mathlib.Omega.{arith}
-use mathlib.Core.Bool.{Bool, true, false, not, ◌&&◌, true≢false, false≢true}
+use mathlib.Core.Bool.{true, false, true≢false}
 use mathlib.Core.List.{List}
 use mathlib.Core.Logic.{⊎_elim}
-use mathlib.Core.Path.{◌≡◌, refl, sym, ap, subst, ◌∙◌}
-use borrow.Author.Tests.{le-ltb, ltb-true, ltb-false, not-true, not-false}
+use mathlib.Core.Path.{◌≡◌, sym, ap, subst, ◌∙◌}
+use borrow.Author.Tests.{le-ltb, ltb-true, ltb-false}
 use lib.Dec.{ltb}
-use Rattle.octets.specs.Searches.{first_fit, first_refused}
-use Rattle.octets.proofs.Searches.{first_to, first_fits, first-none, first-is, first_absent}
+use Rattle.std.specs.declared.cmp.Ordering.{Ordering}
+use Rattle.std.specs.declared.cmp.Ordering.TheVariants.{Less, Equal, Greater}
+use Rattle.std.specs.Cmp.Lexicographic.{slice_cmp}
+use Rattle.std.specs.Ordering.{nat_cmp}
+use Rattle.octets.proofs.Flags.{by-test}
+use Rattle.octets.proofs.Searches.{first-is, first_absent}
+use Rattle.devices.specs.declared.Section.{Section}
 use Rattle.devices.specs.Keys.{below, same}
-use Rattle.devices.proofs.Keys.{below_self, below-trans, below-neither, below-differ, differ, same_self}
+use Rattle.devices.specs.Sections.{count_at, key_at, rises, entry_of, is_listed}
+use Rattle.devices.proofs.Keys.{cmp_below, cmp_same, cmp_above, below_self, below-trans, below-differ, differ, same_self}
+use Rattle.devices.proofs.Standing.{keys-rise}
 
-module _ (K : ℕ → List ℕ) (n : ℕ) (x : List ℕ) where
-  -- entry m is the first that does not stand below x
-  pub record Sought (m : ℕ) : Type 0 where
-    pub most : m ≤ n
-    pub before : (j : ℕ) → j < m → below (K j) x ≡ true
-    pub here : m < n → below (K m) x ≡ false
+-- every entry before entry m stands below a key
+abbrev pub Below : Section → List ℕ → ℕ → List ℕ → ℕ → Type 0
+Below z t from x m = (k : ℕ) → k < m → below (key_at z t from k) x ≡ true
 
-  pub sought : (start : ℕ) → start ≤ n → ((j : ℕ) → j < start → below (K j) x ≡ true) → Sought (first_refused (λ k. below (K k) x) start (n - start))
-  sought start l b =
-      let f : ℕ → Bool = λ k. not (below (K k) x) in
-      let e : start + (n - start) ≡ n = omega arith in
-      record {
-        most = omega (arith, first_to f start (n - start));
-        before = λ j h. by_place j h (ltb j start) refl;
-        here = λ h. not-true (below (K (first_fit f start (n - start))) x) (first_fits f start (n - start) (omega arith));
-      }
+module _ (z : Section) (t : List ℕ) (from n : ℕ) (counted : n ≡ count_at t from) (x : List ℕ) (m : ℕ) (before : Below z t from x m) where
+  -- the entry that has it is the first that has it
+  there : m < n → key_at z t from m ≡ x → entry_of z t from x ≡ m
+  unfolding entry_of
+  there h e =
+      first-is (λ k. same (key_at z t from k) x) 0 (count_at t from) m (omega arith) (omega arith)
+      (ap (λ (y : List ℕ). same y x) e ∙ same_self x)
+      (λ k l u. below-differ (key_at z t from k) x (before k u))
+
+  -- none has it where entry m stands above it, or there is no entry m
+  absent : ((k : ℕ) → k < n → rises z t from k ≡ true) → (m < n → below x (key_at z t from m) ≡ true) → is_listed z t from x ≡ false
+  unfolding entry_of
+  absent rise above =
+      ap (λ (k : ℕ). ltb k (count_at t from))
+      (first_absent (λ k. same (key_at z t from k) x) 0 (count_at t from)
+      (λ k l u. by-test (ltb k m)
+      (λ e. below-differ (key_at z t from k) x (before k (ltb-true k m e)))
+      (λ e. differ (key_at z t from k) x
+      (λ q. true≢false (sym (over k (omega arith) (ltb-false k m e)) ∙ ap (below x) q ∙ below_self x))))
+      ∙ zero-add (count_at t from))
+      ∙ le-ltb (count_at t from) (count_at t from) (omega arith)
     where
-      by_place : (j : ℕ) → j < first_refused (λ k. below (K k) x) start (n - start) → (s : Bool) → ltb j start ≡ s → below (K j) x ≡ true
-      by_place j h true e = b j (ltb-true j start e)
-      by_place j h false e =
-          not-false (below (K j) x) (first-none (λ k. not (below (K k) x)) start (n - start) j (ltb-false j start e) h)
+      over : (k : ℕ) → k < n → m ≤ k → below x (key_at z t from k) ≡ true
+      over k h l =
+          ⊎_elim
+          (λ (e : m ≡ k). subst (λ (j : ℕ). below x (key_at z t from j) ≡ true) e (above (omega arith)))
+          (λ (g : m < k). below-trans x (key_at z t from m) (key_at z t from k) (above (omega arith)) (keys-rise z t from n rise m k g h))
+          (eq-or-lt_of_le l)
 
-  module _ (m : ℕ) (s : Sought m) where
-    found : m < n → below x (K m) ≡ false → first_fit (λ k. same (K k) x) 0 n ≡ m
-    found h b =
-        first-is (λ k. same (K k) x) 0 n m (omega arith) (omega arith)
-        (ap (λ (y : List ℕ). same y x) (below-neither (K m) x (s.here h) b) ∙ same_self x)
-        (λ k l u. below-differ (K k) x (s.before k u))
+  pub none-left : ((k : ℕ) → k < n → rises z t from k ≡ true) → n ≤ m → is_listed z t from x ≡ false
+  none-left rise h = absent rise (λ l. absurd (omega arith))
 
-    module _ (up : (i j : ℕ) → i < j → j < n → below (K i) (K j) ≡ true) where
-      absent : (m < n → below x (K m) ≡ true) → first_fit (λ k. same (K k) x) 0 n ≡ n
-      absent above = first_absent (λ k. same (K k) x) 0 n (λ k l u. by_place k (omega arith) (ltb k m) refl) ∙ zero-add n
-        where
-          over : (k : ℕ) → k < n → m ≤ k → below x (K k) ≡ true
-          over k h l =
-              ⊎_elim
-              (λ (e : m ≡ k). subst (λ (j : ℕ). below x (K j) ≡ true) e (above (omega arith)))
-              (λ (g : m < k). below-trans x (K m) (K k) (above (omega arith)) (up m k g h))
-              (eq-or-lt_of_le l)
+  -- the three answers of entry m's key, compared
+  module _ (key : List ℕ) (o : Ordering) (is : key ≡ key_at z t from m) (compared : o ≡ slice_cmp nat_cmp key x) where
+    tells : (a : Ordering) → o ≡ a → slice_cmp nat_cmp (key_at z t from m) x ≡ a
+    tells a e = ap (λ (y : List ℕ). slice_cmp nat_cmp y x) (sym is) ∙ sym compared ∙ e
 
-          by_place : (k : ℕ) → k < n → (b : Bool) → ltb k m ≡ b → same (K k) x ≡ false
-          by_place k h true e = below-differ (K k) x (s.before k (ltb-true k m e))
-          by_place k h false e =
-              differ (K k) x (λ q. true≢false (sym (over k h (ltb-false k m e)) ∙ ap (below x) q ∙ below_self x))
+    pub goes-on : o ≡ Less → Below z t from x (m + 1)
+    goes-on e k h =
+        ⊎_elim
+        (λ (q : k ≡ m). subst (λ (j : ℕ). below (key_at z t from j) x ≡ true) (sym q) (cmp_below (key_at z t from m) x (tells Less e)))
+        (λ (l : k < m). before k l)
+        (eq-or-lt_of_le (omega arith))
 
-      -- whether entry m has the key is whether any entry has it, and it is then entry m
-      pub told : (ltb m n && not (below x (K m)) ≡ ltb (first_fit (λ k. same (K k) x) 0 n) n)
-      told = by-test (ltb m n) refl (below x (K m)) refl
-        where
-          by-test : (a : Bool) → ltb m n ≡ a → (b : Bool) → below x (K m) ≡ b → a && not b ≡ ltb (first_fit (λ k. same (K k) x) 0 n) n
-          by-test true e true g =
-              sym (ap (λ (k : ℕ). ltb k n) (absent (λ h. g)) ∙ le-ltb n n (omega arith))
-          by-test true e false g =
-              sym (ap (λ (k : ℕ). ltb k n) (found (ltb-true m n e) g) ∙ e)
-          by-test false e b g =
-              sym (ap (λ (k : ℕ). ltb k n) (absent (λ h. absurd (omega (arith, ltb-false m n e)))) ∙ le-ltb n n (omega arith))
+    pub found-here : m < n → o ≡ Equal → entry_of z t from x ≡ m
+    found-here h e = there h (cmp_same (key_at z t from m) x (tells Equal e))
 
-      pub told-place : ltb m n && not (below x (K m)) ≡ true → first_fit (λ k. same (K k) x) 0 n ≡ m
-      told-place e = by-test (ltb m n) refl (below x (K m)) refl e
-        where
-          by-test : (a : Bool) → ltb m n ≡ a → (b : Bool) → below x (K m) ≡ b → a && not b ≡ true → first_fit (λ k. same (K k) x) 0 n ≡ m
-          by-test true p false q g = found (ltb-true m n p) q
-          by-test true p true q g = absurd (false≢true g)
-          by-test false p b q g = absurd (false≢true g)
+    pub passed-over : ((k : ℕ) → k < n → rises z t from k ≡ true) → o ≡ Greater → is_listed z t from x ≡ false
+    passed-over rise e = absent rise (λ l. cmp_above (key_at z t from m) x (tells Greater e))
+
+pub ruleset seeking = (none-left, goes-on, found-here, passed-over)

@@ -1,166 +1,122 @@
--- The judge of a whole table, part by part of its order: what is known behind the systems' count and size, behind their order, and behind
--- the parts' count and size. One law for each answer j, where a call answered v and g is whether that was good. Assumes nothing.
-use Prim.Native.Nat.{ℕ, ◌≤◌, ◌<◌}
+-- The judge of a whole table in its five stages: the systems' count and size, their order, the parts' count and size, their order with their
+-- systems, and what is behind them. The first stage that refuses decides. Assumes nothing.
+use Prim.Native.Nat.{ℕ, ◌<◌}
 use native.Mathlib.Omega.{arith}
-use mathlib.Core.Bool.{Bool, true, false, not}
-use mathlib.Core.List.{List, [], ◌∷◌, ◌++◌}
-use mathlib.Core.Path.{◌≡◌, refl, sym, ap, subst, ◌∙◌}
-use borrow.Author.Tests.{leb-true, le-leb, lt-leb}
-use lib.ListN.{length, take, drop}
-use Rattle.octets.specs.Numbers.{low_first}
-use Rattle.octets.proofs.Flags.{on, off}
+use mathlib.Core.Bool.{true, false, cond}
+use mathlib.Core.List.{List, [], ◌∷◌}
+use mathlib.Core.Path.{◌≡◌, refl, sym, ap, ◌∙◌}
+use lib.Dec.{leb}
+use lib.ListN.{length}
+use Rattle.verdict.specs.declared.Refused.{Refused}
 use Rattle.verdict.specs.declared.Verdict.{Verdict}
 use Rattle.verdict.specs.Orders.{Test, in_order, refusal, good, is_good, refusing}
-use Rattle.verdict.specs.Refusals.{TAIL}
-use Rattle.verdict.proofs.Order.{passed, failed, good-held, joined-stays, joined-on}
+use Rattle.verdict.specs.Refusals.{TAIL, number_of}
+use Rattle.verdict.proofs.Order.{joined, stays, goes_on, good-held}
+use Rattle.verdict.proofs.Told.{not-good}
 use Rattle.devices.specs.declared.Section.{Section}
-use Rattle.devices.specs.declared.Judgement.{Judgement}
-use Rattle.devices.specs.Sections.{count_at, entry_at, end_of, section_tests, each_entry}
-use Rattle.devices.specs.Tables.{parts_from, system_tests, systems_tests, part_tests, parts_tests, tail_test, judged, refused_by, judgement}
-use Rattle.devices.proofs.Each.{refusing-each}
-use Rattle.devices.proofs.Good.{behind_systems}
+use Rattle.devices.specs.declared.entries.Entries.{Entries}
+use Rattle.devices.specs.Sections.{count_at, end_of, rises, section_tests, rising_tests, each_entry}
+use Rattle.devices.specs.Tables.{parts_from, system_tests, systems_tests, part_tests, parts_tests, tail_test, judged}
+use Rattle.devices.proofs.Each.{refusing-each, held-each}
 
--- a section that passed is there to its end
-pub section-fits : (z : Section) (t : List ℕ) (from n : ℕ) → n ≡ count_at t from → is_good (in_order (section_tests z t from) good) ≡ true → entry_at z from n ≤ length t
-section-fits z t from n c g =
-    subst (λ (k : ℕ). entry_at z from k ≤ length t) (sym c)
-    (leb-true (end_of z t from) (length t) (good-held (section_tests z t from) good refl g).0.1.1.0)
+-- a stage that refuses decides, and one that passes leaves what is behind it
+decides : (ts : List Test) (v rest : Verdict) → is_good v ≡ false → v ≡ in_order ts good → in_order ts rest ≡ v
+decides ts v rest bad e = stays ts rest (ap is_good (sym e) ∙ bad) ∙ sym e
+
+passes : (ts : List Test) (rest : Verdict) → refusing ts ≡ true → good ≡ in_order ts good → in_order ts rest ≡ rest
+passes ts rest refuse e = goes_on ts rest refuse (ap is_good (sym e))
 
 module _ (a b : Section) (t : List ℕ) where
-  pub judgement-refused : (v : Verdict) → v ≡ judged a b t → is_good v ≡ false → refused_by v ≡ judgement a b t
-  unfolding judgement
-  judgement-refused v e g = ap refused_by e ∙ sym (simp (ap is_good (sym e) ∙ g))
+  abbrev p : ℕ
+  p = parts_from a t
 
-  pub judgement-good : judged a b t ≡ good → ◌≡◌ {A = Judgement} (record { verdict = good; systems = count_at t 0; parts = count_at t (parts_from a t) }) (judgement a b t)
-  unfolding judgement
-  judgement-good e = simp e
+  -- what is behind the first stage, the second ..
+  abbrev behind4 : Verdict
+  behind4 = in_order (tail_test a b t ∷ []) good
 
-  -- what is left of the order behind the systems' count and size, and behind that of the parts
-  behind_first : List Test
-  behind_first = systems_tests a t ++ behind_systems a b t
+  abbrev behind3 : Verdict
+  behind3 = in_order (parts_tests a b t) behind4
 
-  behind_third : List Test
-  behind_third = parts_tests a b t ++ (tail_test a b t ∷ [])
+  abbrev behind2 : Verdict
+  behind2 = in_order (section_tests b t p) behind3
 
-  -- behind CUT, MANY and CUT of s systems
-  pub record First (s : ℕ) : Type 0 where
-    pub counted : s ≡ count_at t 0
-    pub fits : entry_at a 0 s ≤ length t
-    past : judged a b t ≡ in_order behind_first good
+  abbrev behind1 : Verdict
+  behind1 = in_order (systems_tests a t) behind2
 
-  -- behind their ORDER, with the parts' section to begin at `from`
-  pub record Second (s from : ℕ) : Type 0 where
-    pub counted : s ≡ count_at t 0
-    pub rose : is_good (in_order (systems_tests a t) good) ≡ true
-    pub starts : from ≡ parts_from a t
-    pub follows : entry_at a 0 s ≤ from
-    pub inside : from ≤ length t
-    past : judged a b t ≡ in_order (behind_systems a b t) good
+  in-stages : judged a b t ≡ in_order (section_tests a t 0) behind1
+  unfolding judged
+  in-stages =
+      joined (section_tests a t 0) _ good
+      ∙ ap (in_order (section_tests a t 0))
+      (joined (systems_tests a t) _ good
+      ∙ ap (in_order (systems_tests a t))
+      (joined (section_tests b t p) _ good ∙ ap (in_order (section_tests b t p)) (joined (parts_tests a b t) (tail_test a b t ∷ []) good)))
 
-  -- behind CUT, MANY and CUT of n parts
-  pub record Third (s from n : ℕ) : Type 0 where
-    pub second : Second s from
-    pub listed : n ≡ count_at t (parts_from a t)
-    pub fits : entry_at b from n ≤ length t
-    past : judged a b t ≡ in_order behind_third good
+  pub systems-refused : (r : Refused) → refusal (number_of r.refusal) r.place ≡ in_order (section_tests a t 0) good → refusal (number_of r.refusal) r.place ≡ judged a b t
+  systems-refused r told = sym (in-stages ∙ decides (section_tests a t 0) (refusal (number_of r.refusal) r.place) behind1 (not-good r.refusal r.place) told)
 
-  -- a part of the order whose verdict v was not good decides, and one that was passed leaves what comes after it
-  module _ (ts us : List Test) (v : Verdict) (g : Bool) (whole : judged a b t ≡ in_order (ts ++ us) good) (here : v ≡ in_order ts good) (is : g ≡ is_good v) where
-    refuses : (j : Judgement) → not g ≡ true → j ≡ refused_by v → j ≡ judgement a b t
-    refuses j f r =
-        r ∙ judgement-refused v (here ∙ sym (joined-stays ts us good (ap is_good (sym here) ∙ off is f)) ∙ sym whole) (off is f)
+  module _ (one : good ≡ in_order (section_tests a t 0) good) where
+    after1 : judged a b t ≡ behind1
+    after1 = in-stages ∙ passes (section_tests a t 0) behind1 refl one
 
-    passes : refusing ts ≡ true → not g ≡ false → judged a b t ≡ in_order us good
-    passes n f = whole ∙ joined-on ts us good n (ap is_good (sym here) ∙ on is f)
+    pub second-decides : (v : Verdict) → is_good v ≡ false → v ≡ in_order (systems_tests a t) good → v ≡ judged a b t
+    second-decides v bad e = sym (after1 ∙ decides (systems_tests a t) v behind2 bad e)
 
-  module _ (v : Verdict) (g : Bool) (e : v ≡ in_order (section_tests a t 0) good) (is : g ≡ is_good v) where
-    from_start : judged a b t ≡ in_order (section_tests a t 0 ++ behind_first) good
-    unfolding judged behind_first behind_systems
-    from_start = refl
+    module _ (two : good ≡ in_order (systems_tests a t) good) where
+      after2 : judged a b t ≡ behind2
+      after2 = after1 ∙ passes (systems_tests a t) behind2 (refusing-each (system_tests a t) (λ k. refl) 0 (count_at t 0)) two
 
-    pub first_refused_lem : (j : Judgement) → not g ≡ true → j ≡ refused_by v → j ≡ judgement a b t
-    first_refused_lem j f r = refuses (section_tests a t 0) behind_first v g from_start e is j f r
+      pub third-decides : (v : Verdict) → is_good v ≡ false → v ≡ in_order (section_tests b t p) good → v ≡ judged a b t
+      third-decides v bad e = sym (after2 ∙ decides (section_tests b t p) v behind3 bad e)
 
-    pub first-passed : (s : ℕ) → not g ≡ false → s ≡ low_first (take 2 (drop 0 t)) → First s
-    unfolding count_at
-    first-passed s f c = record {
-      counted = c;
-      fits = section-fits a t 0 s c (ap is_good (sym e) ∙ on is f);
-      past = passes (section_tests a t 0) behind_first v g from_start e is refl f;
-    }
+      module _ (three : good ≡ in_order (section_tests b t p) good) where
+        after3 : judged a b t ≡ behind3
+        after3 = after2 ∙ passes (section_tests b t p) behind3 refl three
 
-  module _ (s : ℕ) (k : First s) (v : Verdict) (g : Bool) (e : v ≡ in_order (each_entry (system_tests a t) 0 s) good) (is : g ≡ is_good v) where
-    rising : v ≡ in_order (systems_tests a t) good
-    rising = e ∙ ap (λ (n : ℕ). in_order (each_entry (system_tests a t) 0 n) good) k.counted
+        pub fourth-decides : (v : Verdict) → is_good v ≡ false → v ≡ in_order (parts_tests a b t) good → v ≡ judged a b t
+        fourth-decides v bad e = sym (after3 ∙ decides (parts_tests a b t) v behind4 bad e)
 
-    from-systems : judged a b t ≡ in_order (systems_tests a t ++ behind_systems a b t) good
-    unfolding behind_first
-    from-systems = k.past
+        pub tail-decides : good ≡ in_order (parts_tests a b t) good → in_order (tail_test a b t ∷ []) good ≡ judged a b t
+        tail-decides four =
+            sym (after3 ∙ passes (parts_tests a b t) behind4 (refusing-each (part_tests a b t p) (λ k. refl) 0 (count_at t p)) four)
 
-    pub second-refused : (j : Judgement) → not g ≡ true → j ≡ refused_by v → j ≡ judgement a b t
-    second-refused j f r = refuses (systems_tests a t) (behind_systems a b t) v g from-systems rising is j f r
+-- the same of what the calls told: the systems e that were read, and the refusal r of the stage that is come to
+module _ (a b : Section) (t : List ℕ) (e : Entries) (z : e.section ≡ a) (bytes : e.table.now ≡ t) (from : e.from ≡ 0) (one : good ≡ in_order (section_tests a t 0) good) where
+  systems-order : each_entry (rising_tests e.section e.table.now e.from) 0 e.count ≡ systems_tests a t
+  systems-order = λ i. each_entry (rising_tests (z i) (bytes i) (from i)) 0 ((e.counted ∙ (λ j. count_at (bytes j) (from j))) i)
 
-    pub second-passed : (from : ℕ) → not g ≡ false → from ≡ entry_at a 0 s → Second s from
-    second-passed from f starts = record {
-      counted = k.counted;
-      rose = ap is_good (sym rising) ∙ on is f;
-      starts = starts ∙ ap (entry_at a 0) k.counted;
-      follows = omega arith;
-      inside = omega (arith, k.fits);
-      past =
-          passes (systems_tests a t) (behind_systems a b t) v g from-systems rising is (refusing-each (system_tests a t) (λ k. refl) 0 (count_at t 0)) f;
-    }
+  ordered : (v : Verdict) → v ≡ in_order (each_entry (rising_tests e.section e.table.now e.from) 0 e.count) good → v ≡ in_order (systems_tests a t) good
+  ordered v told = told ∙ ap (λ (ts : List Test). in_order ts good) systems-order
 
-  module _ (s from : ℕ) (k : Second s from) (v : Verdict) (g : Bool) (e : v ≡ in_order (section_tests b t from) good) (is : g ≡ is_good v) where
-    sized : v ≡ in_order (section_tests b t (parts_from a t)) good
-    sized = e ∙ ap (λ (p : ℕ). in_order (section_tests b t p) good) k.starts
+  pub order-refused : (r : Refused) → refusal (number_of r.refusal) r.place ≡ in_order (each_entry (rising_tests e.section e.table.now e.from) 0 e.count) good → refusal (number_of r.refusal) r.place ≡ judged a b t
+  order-refused r told = second-decides a b t one (refusal (number_of r.refusal) r.place) (not-good r.refusal r.place) (ordered _ told)
 
-    from-count : judged a b t ≡ in_order (section_tests b t (parts_from a t) ++ behind_third) good
-    unfolding behind_systems behind_third
-    from-count = k.past
+  module _ (two : good ≡ in_order (each_entry (rising_tests e.section e.table.now e.from) 0 e.count) good) (end : ℕ) (ends : end ≡ end_of e.section e.table.now e.from) where
+    pub end-is : end ≡ parts_from a t
+    end-is = ends ∙ (λ i. end_of (z i) (bytes i) (from i))
 
-    pub third-refused : (j : Judgement) → not g ≡ true → j ≡ refused_by v → j ≡ judgement a b t
-    third-refused j f r = refuses (section_tests b t (parts_from a t)) behind_third v g from-count sized is j f r
+    sized : (v : Verdict) → v ≡ in_order (section_tests b t end) good → v ≡ in_order (section_tests b t (parts_from a t)) good
+    sized v told = told ∙ ap (λ (p : ℕ). in_order (section_tests b t p) good) end-is
 
-    pub third-passed : (n : ℕ) → not g ≡ false → n ≡ low_first (take 2 (drop from t)) → Third s from n
-    unfolding count_at
-    third-passed n f c = record {
-      second = k;
-      listed = c ∙ ap (count_at t) k.starts;
-      fits = section-fits b t from n c (ap is_good (sym e) ∙ on is f);
-      past = passes (section_tests b t (parts_from a t)) behind_third v g from-count sized is refl f;
-    }
+    pub parts-refused : (r : Refused) → refusal (number_of r.refusal) r.place ≡ in_order (section_tests b t end) good → refusal (number_of r.refusal) r.place ≡ judged a b t
+    parts-refused r told = third-decides a b t one (ordered good two) _ (not-good r.refusal r.place) (sized _ told)
 
-  module _ (s from n : ℕ) (k : Third s from n) (v : Verdict) (g : Bool) (e : v ≡ in_order (each_entry (part_tests a b t from) 0 n) good) (is : g ≡ is_good v) where
-    owned : v ≡ in_order (parts_tests a b t) good
-    owned =
-        e
-        ∙ ap (λ (p : ℕ). in_order (each_entry (part_tests a b t p) 0 n) good) k.second.starts
-        ∙ ap (λ (m : ℕ). in_order (each_entry (part_tests a b t (parts_from a t)) 0 m) good) k.listed
+    module _ (three : good ≡ in_order (section_tests b t end) good) where
+      owned : (v : Verdict) → v ≡ in_order (parts_tests a b e.table.now) good → v ≡ in_order (parts_tests a b t) good
+      owned v told = told ∙ ap (λ (u : List ℕ). in_order (parts_tests a b u) good) bytes
 
-    from_parts : judged a b t ≡ in_order (parts_tests a b t ++ (tail_test a b t ∷ [])) good
-    unfolding behind_third
-    from_parts = k.past
+      pub owners-refused : (r : Refused) → refusal (number_of r.refusal) r.place ≡ in_order (parts_tests a b e.table.now) good → refusal (number_of r.refusal) r.place ≡ judged a b t
+      owners-refused r told = fourth-decides a b t one (ordered good two) (sized good three) _ (not-good r.refusal r.place) (owned _ told)
 
-    pub fourth-refused : (j : Judgement) → not g ≡ true → j ≡ refused_by v → j ≡ judgement a b t
-    fourth-refused j f r = refuses (parts_tests a b t) (tail_test a b t ∷ []) v g from_parts owned is j f r
-
-    module _ (f : not g ≡ false) (end : ℕ) (ends : end ≡ entry_at b from n) where
-      from_tail : judged a b t ≡ in_order (tail_test a b t ∷ []) good
-      from_tail =
-          passes (parts_tests a b t) (tail_test a b t ∷ []) v g from_parts owned is
-          (refusing-each (part_tests a b t (parts_from a t)) (λ k. refl) 0 (count_at t (parts_from a t))) f
-
-      end_is : end ≡ end_of b t (parts_from a t)
-      end_is = ends ∙ ap (λ (p : ℕ). entry_at b p n) k.second.starts ∙ ap (entry_at b (parts_from a t)) k.listed
-
-      pub tail-refused : (w : Verdict) (j : Judgement) → end < length t → w ≡ refusal TAIL 0 → j ≡ refused_by w → j ≡ judgement a b t
-      tail-refused w j h is-tail r =
-          let tail : judged a b t ≡ refusal TAIL 0 = from_tail ∙ failed (tail_test a b t) [] good (lt-leb (length t) (end_of b t (parts_from a t)) (omega (arith, end_is))) in
-          r ∙ ap refused_by is-tail ∙ judgement-refused (refusal TAIL 0) (sym tail) refl
-
-      pub all-passed : (j : Judgement) → length t ≤ end → j.verdict ≡ good → j.systems ≡ s → j.parts ≡ n → j ≡ judgement a b t
+      pub tail-left : good ≡ in_order (parts_tests a b e.table.now) good → judged a b t ≡ cond (leb (length t) (end_of b t end)) good (refusal TAIL 0)
       unfolding in_order
-      all-passed j h p q r =
-          let whole : judged a b t ≡ good = from_tail ∙ passed (tail_test a b t) [] good (le-leb (length t) (end_of b t (parts_from a t)) (omega (arith, end_is))) in
-          (λ i. record { verdict = p i; systems = (q ∙ k.second.counted) i; parts = (r ∙ k.listed) i }) ∙ judgement-good whole
+      tail-left four =
+          sym (tail-decides a b t one (ordered good two) (sized good three) (owned good four))
+          ∙ ap (λ (p : ℕ). cond (leb (length t) (end_of b t p)) good (refusal TAIL 0)) (sym end-is)
+
+-- entries that passed their order rise
+pub order-rises : (e : Entries) → good ≡ in_order (each_entry (rising_tests e.section e.table.now e.from) 0 e.count) good
+    → (k : ℕ) → k < e.count → rises e.section e.table.now e.from k ≡ true
+order-rises e passed k h =
+    let f : ℕ → List Test = rising_tests e.section e.table.now e.from in
+    (held-each f 0 e.count k (good-held (each_entry f 0 e.count) good (refusing-each f (λ j. refl) 0 e.count) (ap is_good (sym passed))).0 (omega arith) (omega arith)).0

@@ -19,7 +19,7 @@ use Rattle.devices.specs.Keys.{below, same}
 use Rattle.devices.specs.Sections.{count_at, entry_at, key_at, entry_of, is_listed}
 use Rattle.devices.specs.Tables.{of_systems, of_parts, parts_from, system_of, judged, found_place}
 use Rattle.devices.proofs.Keys.{below_self, same_self, same_true}
-use Rattle.devices.proofs.Entries.{entry-inside, keys-rise}
+use Rattle.devices.proofs.Standing.{entry_inside, keys-rise}
 use Rattle.devices.proofs.Good.{Whole, Sound, good-sound}
 use Rattle.devices.proofs.Finding.{place-refused, place-unlisted, place-listed}
 use Rattle.devices.proofs.Beginnings.{longer-tail, beginning-cut}
@@ -147,7 +147,7 @@ description_size_lem t x e =
     let k = entry_of of_parts t (parts_from of_systems t) x in
     let at = entry_at of_parts (parts_from of_systems t) k in
     let fits : at + 38 ≤ length t =
-    entry-inside of_parts (parts_from of_systems t) k (part_count t) (length t) f.inside (good-sound of_systems of_parts t f.sound).parts.fits in
+    entry_inside of_parts (parts_from of_systems t) k (part_count t) (length t) f.inside (good-sound of_systems of_parts t f.sound).parts.fits in
     ap (λ (p : Part). length (part_in t p)) f.stands ∙ length_part t (at + 7) (at + 38) (omega arith) fits ∙ omega arith
 
 pub refused-empty : (t x : List ℕ) → is_good (found_place of_systems of_parts t x).verdict ≡ false → part_in t (found_place of_systems of_parts t x) ≡ []

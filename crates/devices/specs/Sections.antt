@@ -7,7 +7,7 @@ use Rattle.octets.specs.Parts.{part}
 use Rattle.octets.specs.Searches.{first_fit}
 use Rattle.verdict.specs.declared.Verdict.{Verdict}
 use Rattle.verdict.specs.Orders.{Test, ◌or_else◌, refusal, good}
-use Rattle.verdict.specs.Refusals.{CUT, MANY}
+use Rattle.verdict.specs.Refusals.{CUT, MANY, ORDER}
 use Rattle.devices.specs.declared.Section.{Section}
 use Rattle.devices.specs.Keys.{below, same}
 
@@ -67,6 +67,10 @@ section_tests z t from =
 -- a test of an entry, and the refusal with that entry's place
 abbrev pub at_place : Bool → ℕ → ℕ → Test
 at_place b n place = record { holds = b; refused = refusal n place }
+
+-- "entries one by one with ORDER", at the entry's number from 0
+abbrev pub rising_tests : Section → List ℕ → ℕ → ℕ → List Test
+rising_tests z t from k = at_place (rises z t from k) ORDER k ∷ []
 
 -- "then entries one by one": the tests of n entries from entry k on
 unfoldable pub each_entry : (ℕ → List Test) → ℕ → ℕ → List Test

@@ -1,12 +1,14 @@
 -- The judge of a device table and the finding of a part (document 01, "Device table"), over any two sections a of systems and b of parts.
 -- Assumes nothing.
-use Rattle.std.specs.Prelude.{ℕ, ◌+◌, Bool, cond, ◌&&◌, List, [], ◌∷◌, ◌++◌, leb, ltb, length}
+use Rattle.std.specs.Prelude.{ℕ, ◌+◌, Bool, cond, ◌&&◌, List, [], ◌∷◌, ◌++◌, leb, ltb, length, Result, Ok, Err}
 use Rattle.octets.specs.Numbers.{bytes_of}
 use Rattle.verdict.specs.declared.Verdict.{Verdict}
 use Rattle.verdict.specs.declared.Part.{Part}
-use Rattle.verdict.specs.Orders.{Test, ◌or_else◌, in_order, good, is_good, part_by}
-use Rattle.verdict.specs.Refusals.{ORDER, ORPHAN, TAIL, UNLISTED}
+use Rattle.verdict.specs.declared.Refused.{Refused}
+use Rattle.verdict.specs.Orders.{Test, ◌or_else◌, in_order, refusal, good, is_good, part_by}
+use Rattle.verdict.specs.Refusals.{ORDER, ORPHAN, TAIL, UNLISTED, number_of}
 use Rattle.devices.specs.declared.Section.{Section}
+use Rattle.devices.specs.declared.Counts.{Counts}
 use Rattle.devices.specs.declared.Judgement.{Judgement}
 use Rattle.devices.specs.declared.PartKey.{PartKey}
 use Rattle.devices.specs.Sections.{count_at, entry_at, end_of, first_bytes, rises, entry_of, is_listed, count_test, section_tests, at_place, each_entry, limited}
@@ -73,6 +75,11 @@ judged a b t = in_order (table_tests a b t) good
 -- the verdict, with the numbers of systems and of parts, "zero .. for all else" on a refusal
 abbrev pub refused_by : Verdict → Judgement
 refused_by v = record { verdict = v; systems = 0; parts = 0 }
+
+-- an answer as this paper's judgement
+abbrev pub counted : Result Counts Refused → Judgement
+counted (Ok c) = record { verdict = good; systems = c.systems; parts = c.parts }
+counted (Err e) = refused_by (refusal (number_of e.refusal) e.place)
 
 unfoldable pub judgement : Section → Section → List ℕ → Judgement
 judgement a b t =

@@ -2,17 +2,20 @@
 use Prim.Native.Nat.{ℕ, zero, suc, ◌+◌, ◌-◌, ◌≤◌, ◌<◌}
 use native.Mathlib.Nat.{suc-mul, mul-le-mul_right, eq-or-lt_of_le, le_of_suc-le-suc, not-suc-le-zero}
 use native.Mathlib.Omega.{arith}
-use mathlib.Core.Bool.{Bool, true}
+use mathlib.Core.Bool.{true}
 use mathlib.Core.List.{List}
 use mathlib.Core.Logic.{⊎_elim}
 use mathlib.Core.Path.{◌≡◌, refl, sym, ap, subst, ◌∙◌}
 use lib.ListN.{length, take, drop}
+use Rattle.std.specs.Cmp.Lexicographic.{slice_cmp}
+use Rattle.std.specs.Ordering.{nat_cmp, is_lt}
+use Rattle.std.specs.declared.cmp.Ordering.{Ordering}
 use Rattle.octets.specs.Parts.{part}
 use Rattle.octets.proofs.Parts.{part-is}
 use Rattle.devices.specs.declared.Section.{Section}
 use Rattle.devices.specs.Keys.{below}
 use Rattle.devices.specs.Sections.{entry_at, first_bytes, key_at, rises}
-use Rattle.devices.proofs.Keys.{below-trans}
+use Rattle.devices.proofs.Keys.{below_cmp, below-trans}
 
 module _ (z : Section) (from : ℕ) where
   pub entry_next : (k : ℕ) → entry_at z from k + z.entry ≡ entry_at z from (suc k)
@@ -24,17 +27,12 @@ module _ (z : Section) (from : ℕ) where
   entry-order m n h = omega (arith, mul-le-mul_right z.entry h)
 
   -- an entry of a section that is there is there
-  pub entry-inside : (k n l : ℕ) → k < n → entry_at z from n ≤ l → entry_at z from k + z.entry ≤ l
-  entry-inside k n l h fits = omega (arith, entry_next k, entry-order (suc k) n h)
+  pub entry_inside : (k n l : ℕ) → k < n → entry_at z from n ≤ l → entry_at z from k + z.entry ≤ l
+  entry_inside k n l h fits = omega (arith, entry_next k, entry-order (suc k) n h)
 
-  -- so is the one before it
-  pub entry-before : (k l : ℕ) → entry_at z from k + z.entry ≤ l → entry_at z from (k - 1) + z.entry ≤ l
-  entry-before k l fits = omega (arith, entry-order (k - 1) k (omega arith))
-
--- systems before parts that are there are there
-pub end_before : (a b : Section) (from m n l : ℕ) → entry_at a 0 m ≤ from → entry_at b from n ≤ l → entry_at a 0 m ≤ l
-unfolding entry_at
-end_before a b from m n l p q = omega arith
+  -- and where it begins is
+  pub entry_within : (m n l : ℕ) → m ≤ n → entry_at z from n ≤ l → entry_at z from m ≤ l
+  entry_within m n l h fits = omega (arith, entry-order m n h)
 
 -- the first bytes of an entry that is there
 pub bytes-are : (z : Section) (t : List ℕ) (from k l : ℕ) → entry_at z from k + l ≤ length t → first_bytes z t from k l ≡ take l (drop (entry_at z from k) t)
@@ -44,25 +42,24 @@ bytes-are z t from k l h =
     part-is t (entry_at z from k) (entry_at z from k + l) (omega arith) h ∙ ap (λ (j : ℕ). take j (drop (entry_at z from k) t)) e
 
 -- and as the code cuts them out, from where the entry was found to stand
-pub bytes_cut : (z : Section) (t : List ℕ) (from k l at : ℕ) → at ≡ entry_at z from k → entry_at z from k + z.entry ≤ length t → l ≤ z.entry
-    → take (at + l - at) (drop at t) ≡ first_bytes z t from k l
+pub bytes_cut : (z : Section) (t : List ℕ) (from k n at : ℕ) → at ≡ entry_at z from k → at + n ≤ length t → take (at + n - at) (drop at t) ≡ first_bytes z t from k n
 unfolding first_bytes
-bytes_cut z t from k l at e fits few =
-    sym (part-is t at (at + l) (omega arith) (omega arith)) ∙ ap (λ (j : ℕ). part t j (j + l)) e
+bytes_cut z t from k n at e fits =
+    sym (part-is t at (at + n) (omega arith) fits) ∙ ap (λ (j : ℕ). part t j (j + n)) e
 
 module _ (z : Section) (t : List ℕ) (from : ℕ) where
-  pub first-rises : (i : ℕ) → i ≡ 0 → true ≡ rises z t from i
+  pub first_rises : (k : ℕ) → k ≡ 0 → rises z t from k ≡ true
   unfolding rises
-  first-rises zero e = refl
-  first-rises (suc i) e = absurd (omega arith)
+  first_rises zero e = refl
+  first_rises (suc k) e = absurd (omega arith)
 
-  pub later-rises : (i : ℕ) (x y : List ℕ) (r : Bool) → (i ≡ 0 → ⊥) → x ≡ key_at z t from (i - 1) → y ≡ key_at z t from i → r ≡ below x y
-      → r ≡ rises z t from i
+  pub later_rises : (k : ℕ) (x y : List ℕ) (o : Ordering) → (k ≡ 0 → ⊥) → x ≡ key_at z t from (k - 1) → y ≡ key_at z t from k → o ≡ slice_cmp nat_cmp x y
+      → is_lt o ≡ rises z t from k
   unfolding rises
-  later-rises zero x y r n p q e = absurd (n refl)
-  later-rises (suc i) x y r n p q e =
-      let before : suc i - 1 ≡ i = omega arith in
-      e ∙ ap (λ (k : List ℕ). below k y) (p ∙ ap (key_at z t from) before) ∙ ap (below (key_at z t from i)) q
+  later_rises zero x y o n p q e = absurd (n refl)
+  later_rises (suc k) x y o n p q e =
+      let before : suc k - 1 ≡ k = omega arith in
+      below_cmp x y o e ∙ ap (λ (j : List ℕ). below j y) (p ∙ ap (key_at z t from) before) ∙ ap (below (key_at z t from k)) q
 
   -- where each entry rises, of any two the later stands above
   pub keys-rise : (n : ℕ) → ((k : ℕ) → k < n → rises z t from k ≡ true) → (i j : ℕ) → i < j → j < n → below (key_at z t from i) (key_at z t from j) ≡ true
@@ -73,3 +70,5 @@ module _ (z : Section) (t : List ℕ) (from : ℕ) where
       (λ (e : i ≡ j). subst (λ (m : ℕ). below (key_at z t from m) (key_at z t from (suc j)) ≡ true) (sym e) (up (suc j) b))
       (λ (l : i < j). below-trans (key_at z t from i) (key_at z t from j) (key_at z t from (suc j)) (keys-rise n up i j l (omega arith)) (up (suc j) b))
       (eq-or-lt_of_le (le_of_suc-le-suc h))
+
+pub ruleset rising = (first_rises, later_rises)
