@@ -40,6 +40,7 @@ pub struct Served {
 
 impl Receiver {
     /// An empty receiver that has skipped nothing.
+    #[tactic(auto, unfolding(frame::specs::Frame::room, reading::specs::Calls::pad_to))]
     pub fn fresh() -> Receiver
         ensures { result ≡ receiver_of (fresh 1024) }
     {
@@ -79,6 +80,7 @@ pub fn clear_lent(hold: &mut [u8; 1054])
 }
 
 /// The same call on a lent hold, which is not copied; refused, the hold and the buffer are as they were.
+#[tactic(auto, unfolding(frame::specs::Frame::room))]
 pub fn receive_lent(
     hold: &mut [u8; 1054],
     held: usize,
