@@ -11,12 +11,18 @@ use lib.ListN.{length}
 use Rattle.octets.specs.Searches.{every, same}
 use Rattle.verdict.specs.declared.Refusal.{Refusal}
 use Rattle.verdict.specs.declared.Refusal.TheVariants.{State, Room, Cut, Start, Length, End, Sum, Version, Command, Time, Unit as OfUnit, «Type» as OfType, Count, Short, Number, Kind, Text, Setting, Full, Stray, Many, Order, Orphan, Tail, Unlisted, Long, Centre}
-use Rattle.verdict.specs.Refusals.{Row, refusals, number_of, name_of}
+use Rattle.verdict.specs.Refusals.{Row, number_of, name_of}
+use Rattle.reading.specs.declared.Event.TheVariants.{More, Noise, Packet}
+use Rattle.reading.specs.Events as events
+use Rattle.reading.specs.Values.{MORE, NOISE, PACKET}
+use Rattle.place.specs.declared.Outcome.{Outcome}
+use Rattle.place.specs.declared.Outcome.TheVariants.{Nothing, Confirmed, Answered, Resent, Failed}
+use Rattle.place.specs.Outcomes as outcomes
 use Rattle.naming.specs.Names.{names, ascii, letters_in, letters}
 
--- the name of a refusal's number
-pub refusal_named : (r : Refusal) → letters_in refusals (number_of r) ≡ name_of r
-unfolding letters_in
+-- the name of a refusal's number, and of an outcome's
+pub refusal_named : (r : Refusal) → letters (number_of r) ≡ name_of r
+unfolding letters letters_in
 refusal_named State = refl
 refusal_named Room = refl
 refusal_named Cut = refl
@@ -45,42 +51,80 @@ refusal_named Unlisted = refl
 refusal_named Long = refl
 refusal_named Centre = refl
 
--- and of a number that no refusal has
-pub no_refusal : (n : ℕ) → ((r : Refusal) → number_of r ≡ n → ⊥) → letters_in refusals n ≡ []
-unfolding letters_in
-no_refusal n h =
+pub outcome_named : (o : Outcome) → letters (outcomes.number_of o) ≡ outcomes.name_of o
+unfolding letters letters_in
+outcome_named Nothing = refl
+outcome_named Confirmed = refl
+outcome_named Answered = refl
+outcome_named Resent = refl
+outcome_named Failed = refl
+
+-- of an event's that is no refused start
+pub more_named : letters MORE ≡ events.name_of More
+unfolding letters letters_in
+more_named = refl
+
+pub noise_named : letters NOISE ≡ events.name_of Noise
+unfolding letters letters_in
+noise_named = refl
+
+pub packet_named : letters PACKET ≡ events.name_of (Packet 0)
+unfolding letters letters_in
+packet_named = refl
+
+-- a number of none of them has no name
+pub none_named : (n : ℕ) → (n ≡ MORE → ⊥) → (n ≡ NOISE → ⊥) → (n ≡ PACKET → ⊥) → ((o : Outcome) → outcomes.number_of o ≡ n → ⊥) → ((r : Refusal) → number_of r ≡ n → ⊥)
+    → letters n ≡ []
+unfolding letters letters_in
+none_named n more noise packet o r =
     simp (
-      other n h State,
-      other n h Room,
-      other n h Cut,
-      other n h Start,
-      other n h Length,
-      other n h End,
-      other n h Sum,
-      other n h Version,
-      other n h Command,
-      other n h Time,
-      other n h OfUnit,
-      other n h OfType,
-      other n h Count,
-      other n h Short,
-      other n h Number,
-      other n h Kind,
-      other n h Text,
-      other n h Setting,
-      other n h Full,
-      other n h Stray,
-      other n h Many,
-      other n h Order,
-      other n h Orphan,
-      other n h Tail,
-      other n h Unlisted,
-      other n h Long,
-      other n h Centre,
+      not n MORE more,
+      not n NOISE noise,
+      not n PACKET packet,
+      outcome n o Nothing,
+      outcome n o Confirmed,
+      outcome n o Answered,
+      outcome n o Resent,
+      outcome n o Failed,
+      refused n r State,
+      refused n r Room,
+      refused n r Cut,
+      refused n r Start,
+      refused n r Length,
+      refused n r End,
+      refused n r Sum,
+      refused n r Version,
+      refused n r Command,
+      refused n r Time,
+      refused n r OfUnit,
+      refused n r OfType,
+      refused n r Count,
+      refused n r Short,
+      refused n r Number,
+      refused n r Kind,
+      refused n r Text,
+      refused n r Setting,
+      refused n r Full,
+      refused n r Stray,
+      refused n r Many,
+      refused n r Order,
+      refused n r Orphan,
+      refused n r Tail,
+      refused n r Unlisted,
+      refused n r Long,
+      refused n r Centre,
     )
   where
-    other : (m : ℕ) → ((r : Refusal) → number_of r ≡ m → ⊥) → (r : Refusal) → eqb (number_of r) m ≡ false
-    other m k r = ne_eqb (number_of r) m (k r)
+    not : (n k : ℕ) → (n ≡ k → ⊥) → eqb k n ≡ false
+    not n k h = ne_eqb k n (λ e. h (sym e))
+
+    outcome : (n : ℕ) → ((o : Outcome) → outcomes.number_of o ≡ n → ⊥) → (o : Outcome) → eqb (outcomes.number_of o) n ≡ false
+    outcome n h o = ne_eqb (outcomes.number_of o) n (h o)
+
+    refused : (n : ℕ) → ((r : Refusal) → number_of r ≡ n → ⊥) → (r : Refusal) → eqb (number_of r) n ≡ false
+    refused n h r = ne_eqb (number_of r) n (h r)
+
+pub ruleset naming = (refusal_named, outcome_named, more_named, noise_named, packet_named, none_named)
 
 -- every row's number gives the row's name
 pub each-named : map (λ (r : Row). letters r.number) names ≡ map (λ (r : Row). ascii r.name) names

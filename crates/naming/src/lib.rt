@@ -4,36 +4,28 @@
 ghost use Rattle.std.specs.Prelude.{◌≡◌};
 ghost use Rattle.octets.specs.Parts.{put_at};
 ghost use Rattle.verdict.specs.Orders.{placed};
-ghost use Rattle.verdict.specs.Refusals.{refusals};
-ghost use Rattle.naming.specs.Names.{letters_in, letters};
+ghost use Rattle.naming.specs.Names.{letters};
 ghost use Rattle.naming.specs.Fronts.{front_part};
 
+use place::Outcome;
+use reading::Event;
 use std::ops::Range;
 use verdict::{Refusal, Refused, ensure};
 
 /// The name under a number, of no letters where the number has none.
-#[tactic(auto, unfolding(crate::specs::Names::letters_in, crate::specs::Names::letters))]
+#[tactic(auto, using(crate::proofs::Naming::naming))]
 pub fn name_of(number: u8) -> &'static str
     ensures { result.now ≡ letters number }
 {
     match number {
-        0 => "OK",
-        reading::MORE => "MORE",
-        reading::NOISE => "NOISE",
-        reading::PACKET => "PACKET",
-        place::CONFIRMED => "CONFIRMED",
-        place::ANSWERED => "ANSWERED",
-        place::RESENT => "RESENT",
-        place::FAILED => "FAILED",
-        _ => refusal_name(number),
+        reading::MORE => Event::More.name(),
+        reading::NOISE => Event::Noise.name(),
+        reading::PACKET => Event::Packet(0).name(),
+        _ => match Outcome::try_from(number) {
+            Ok(outcome) => outcome.name(),
+            Err(_) => Refusal::try_from(number).map_or("", Refusal::name),
+        },
     }
-}
-
-#[tactic(auto, using(crate::proofs::Naming::refusal_named, crate::proofs::Naming::no_refusal))]
-fn refusal_name(number: u8) -> &'static str
-    ensures { result.now ≡ letters_in refusals number }
-{
-    Refusal::try_from(number).map_or("", Refusal::name)
 }
 
 /// Writes the name under a number to the front of a lent row.
