@@ -3,10 +3,11 @@ use Prim.Native.Nat.{ℕ, ◌+◌, ◌-◌, ◌≤◌, ◌<◌}
 use native.Mathlib.Omega.{arith}
 use mathlib.Core.Bool.{Bool, true, false, ◌&&◌, and-eq-true_iff}
 use mathlib.Core.List.{List}
-use mathlib.Core.Path.{◌≡◌, refl, sym, ap, ◌∙◌}
-use lib.ListN.{length, take, drop, take-append-drop}
+use mathlib.Core.Path.{◌≡◌, refl, sym, ap, subst, ◌∙◌}
+use lib.ListN.{length, take, drop, length-drop, take-append-drop}
 use lib.Seq.{take-add, take-take, drop-drop}
 use Rattle.octets.specs.Searches.{every}
+use Rattle.octets.proofs.Parts.{rest-is}
 use Rattle.octets.proofs.Searches.{every_append}
 use Rattle.rows.specs.Blocks.{Passed, IsLeft}
 
@@ -69,6 +70,35 @@ module _ (f : ℕ → Bool) where
   pub not-all : (s rest : List ℕ) → Passed f s rest → every f rest ≡ false → false ≡ every f s
   not-all s rest p e = sym (passed-same s rest p ∙ e)
 
-pub ruleset blocks = (passed-none, passed-more, left-stop, left-end)
+-- a walk from block to block
+pub record Walked (f : ℕ → Bool) (s : List ℕ) (at : ℕ) : Type 0 where
+  pub inside : at ≤ length s
+  pub passed : Passed f s (drop at s)
+
+module _ (f : ℕ → Bool) (s : List ℕ) where
+  pub walked-none : Walked f s 0
+  walked-none = record { inside = omega arith; passed = passed-none f s }
+
+  module _ (at n m : ℕ) (t : Bool) (w : Walked f s at) (told : t ≡ every f (take m (drop at s))) (all : m ≡ n) where
+    block : t ≡ every f (take n (drop at s))
+    block = told ∙ ap (λ (k : ℕ). every f (take k (drop at s))) all
+
+    pub walked-more : t ≡ true → n ≤ length s - at → Walked f s (at + n)
+    walked-more e h =
+        record {
+          inside = omega (arith, w.inside);
+          passed =
+              passed-more f s (drop at s) (drop (at + n) s) n w.passed (sym (drop-drop n at s))
+              (omega (arith, length-drop at s, length-drop (at + n) s, w.inside)) (sym block ∙ e);
+        }
+
+    pub walked-stop : (rest : List ℕ) → t ≡ false → rest ≡ take (length s - at) (drop at s) → IsLeft f n s rest
+    walked-stop rest e r = subst (IsLeft f n s) (sym (r ∙ rest-is s at)) (left-stop f s (drop at s) n w.passed (sym block ∙ e))
+
+  pub walked-end : (at n : ℕ) (rest : List ℕ) → Walked f s at → length s - at < n → rest ≡ take (length s - at) (drop at s) → IsLeft f n s rest
+  walked-end at n rest w h r =
+      subst (IsLeft f n s) (sym (r ∙ rest-is s at)) (left-end f s (drop at s) n w.passed (omega (arith, length-drop at s)))
+
+pub ruleset blocks = (walked-none, walked-more, walked-stop, walked-end)
 
 pub ruleset ends = (last-same, last-twice, not-all)

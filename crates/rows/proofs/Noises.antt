@@ -114,7 +114,7 @@ module _ {s : List ℕ} {most end : ℕ} where
           run = omega (arith, noisy-at.run, noise-on s (i + r) (omega (arith, p.limit)) l e);
         }
 
-pub ruleset noises = (noisy-none, noisy-limit, noisy-last, noisy-stop, noisy-more, noisy-within)
+pub ruleset noises = (noisy-none, noisy-end, noisy-limit, noisy-last, noisy-stop, noisy-more, noisy-within)
 
 -- whether a row begins with something other than 64
 pub others-none : (b : List ℕ) → length b ≡ 0 → starts_other b ≡ false

@@ -71,7 +71,7 @@ pub fn noise(s: &[u8], most: usize) -> usize
     let end = most.min(s.len());
     let mut at = 0;
     // From one 64 to the next: one that is the last byte, or before another, may begin a packet.
-    loop {
+    while at < end {
         at += plain(&s[at..end]);
         if at == end {
             return end;
@@ -81,6 +81,7 @@ pub fn noise(s: &[u8], most: usize) -> usize
         }
         at += 1;
     }
+    end
 }
 
 /// Zeros throughout.

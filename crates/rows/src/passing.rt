@@ -37,11 +37,11 @@ impl Test for Unmarked {
     // With no early way out, which the compiler makes fast.
     #[tactic(auto, using(crate::proofs::Tests::marks), unfolding(octets::specs::Searches::every))]
     fn holds(block: &[u8]) -> bool {
-        let mut passes = true;
+        let mut marks = 0;
         for byte in block {
-            passes &= *byte != 64;
+            marks |= u8::from(*byte == 64);
         }
-        passes
+        marks == 0
     }
 }
 
@@ -51,12 +51,10 @@ pub fn left<T: Test, const N: usize>(s: &[u8]) -> &[u8]
     requires { 0 < N }
     ensures { IsLeft T.passes N s.now result.now }
 {
-    let mut rest = s;
-    while let Some((block, behind)) = rest.split_at_checked(N) {
-        if !T::holds(block) {
-            break;
-        }
-        rest = behind;
+    let mut at = 0;
+    // By a place, since a rest split off at each turn misses the bar: noise in pieces of 4,096 bytes costs the receiver 1,200, and 1,174 before.
+    while N <= s.len() - at && T::holds(&s[at..at + N]) {
+        at += N;
     }
-    rest
+    &s[at..]
 }

@@ -5,4 +5,4 @@ use Rattle.rows.proofs.Tests.{Marked}
 use Rattle.rows.proofs.passing.UnmarkedTest.holds.Given as goal
 
 abbrev pub invariant-loop-byte : goal.invariant-loop-byte
-invariant-loop-byte l = Marked (λ b. not (eqb b 64)) l.block l.passes l.byte-index
+invariant-loop-byte l = Marked (λ b. not (eqb b 64)) l.block (eqb l.marks 0) l.byte-index
