@@ -43,19 +43,7 @@ head-both a b n h = ap (λ (l : List ℕ). l ++ take (n - length a) b) (sym (tak
 pub head-inside : (a b : List ℕ) (n : ℕ) → n ≤ length (a ++ b) → n - length a ≤ length b
 head-inside a b n h = omega (arith, length-append a b)
 
--- the sum of a start's bytes, all in the first part
-pub sum-front : (l : ℕ) (a b : List ℕ) (r : ℕ) → l ≤ 1024 → 27 + l ≤ length a → r ≡ total (take 1049 (take (27 + l - 2) (drop 2 a))) % 256
-    → r ≡ sum_of l (a ++ b)
-sum-front l a b r few h e =
-    let size : 27 + l - 2 ≡ 25 + l = omega arith in
-    e
-    ∙ ap (λ (s : List ℕ). total s % 256)
-    (take_all 1049 (take (27 + l - 2) (drop 2 a)) (omega (arith, length-take (27 + l - 2) (drop 2 a)))
-    ∙ ap (λ (n : ℕ). take n (drop 2 a)) size
-    ∙ sym (take-append-le (25 + l) (drop 2 a) b (omega (arith, length-drop 2 a)))
-    ∙ ap (take (25 + l)) (sym (drop-append-le 2 a b (omega arith))))
-
--- or in both, added up, then dropped
+-- both parts of what is summed added up, then dropped
 pub sum_both : (l : ℕ) (xs rest front back : List ℕ) (r x y : ℕ) → rest ≡ drop 2 xs → front ++ back ≡ take (25 + l) rest → l ≤ 1024
     → r ≡ (x + y) % 256 → x ≡ total (take 1049 front) → y ≡ total (take 1049 back) → r ≡ sum_of l xs
 sum_both l xs rest front back r x y left are few e s t =
@@ -70,4 +58,4 @@ sum_both l xs rest front back r x y left are few e s t =
     )
 
 pub ruleset parts =
-    (rules, byte-front, byte-back, left-front, left-back, left-inside, head-front, head-both, head-inside, sum-front, sum_both, length-drop)
+    (rules, byte-front, byte-back, left-front, left-back, left-inside, head-front, head-both, head-inside, sum_both, length-drop)

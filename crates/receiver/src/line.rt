@@ -218,10 +218,6 @@ impl<'a, const MAX: usize> Line<'a, MAX> {
         requires there { 27 + l ≤ length (bytes self.now) }
         ensures { result ≡ sum_of l (bytes self.now) }
     {
-        // By itself, as it nearly always is: 20 instructions less a packet.
-        if 27 + l <= self.front.len() {
-            return octets::sum(&self.front[2..27 + l]);
-        }
         let summed = self.behind(2).head(25 + l);
         ((octets::added(summed.front) + octets::added(summed.back)) % 256) as u8
     }

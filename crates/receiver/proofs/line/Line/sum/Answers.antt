@@ -1,4 +1,4 @@
--- `receiver::line::Line::sum` meets its contract: where the bytes lie in both parts, both are added up. Assumes nothing.
+-- `receiver::line::Line::sum` meets its contract: the bytes in both parts are added up. Assumes nothing.
 use mathlib.Core.Path.{refl}
 use Rattle.receiver.specs.Lines.{bytes}
 use Rattle.receiver.proofs.Spans.{sum_both}
