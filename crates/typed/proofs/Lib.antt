@@ -1,6 +1,4 @@
 pub mod Shown
-pub mod Typing
-pub mod Bodies
+pub mod Finding
 pub mod Labelled
-pub mod Stages
 pub mod Examples
