@@ -1,7 +1,3 @@
-pub mod Wording
-pub mod Copying
-pub mod Heads
-pub mod Judging
 pub mod Placed
 pub mod Kept
 pub mod Promises
