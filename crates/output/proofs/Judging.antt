@@ -1,23 +1,21 @@
 -- What the packet writer answers and leaves in its output, by the verdict on the room and the tests that follow it. Assumes nothing.
 use Prim.Native.Nat.{ℕ, ◌+◌, ◌≤◌}
-use native.Mathlib.Omega.{arith}
-use mathlib.Core.Bool.{true, false}
+use mathlib.Core.Bool.{true, false, false≢true}
 use mathlib.Core.List.{List}
 use mathlib.Core.Path.{◌≡◌, refl, sym, ap, ◌∙◌}
 use borrow.Author.Tests.{leb-true}
-use lib.Dec.{leb}
 use lib.ListN.{length}
-use mir.Syntax.{w64}
-use mir.Val.{Fits}
+use Rattle.std.specs.Prelude.{Result, Ok, Err, IsErr}
 use Rattle.kinds.specs.declared.Row.{Row}
 use Rattle.octets.specs.Parts.{part, put_at}
 use Rattle.packet.specs.declared.Header.{Header}
 use Rattle.output.specs.Packets.{packet_bytes}
 use Rattle.unit.specs.Units.{judged_under}
+use Rattle.verdict.specs.declared.Refused.{Refused}
 use Rattle.verdict.specs.declared.Verdict.{Verdict}
-use Rattle.verdict.specs.Orders.{in_order, good, is_good}
+use Rattle.verdict.specs.Orders.{in_order, good, is_good, told}
 use Rattle.verdict.proofs.Order.{stays, goes_on, good-held}
-use Rattle.verdict.proofs.Walking.{ordering, flag-set, flag-clear}
+use Rattle.verdict.proofs.Told.{not-good}
 use Rattle.output.specs.Writing.{room_tests, field_tests, packet_verdict, written_packet}
 
 module _ (out : List ℕ) (l n : ℕ) where
@@ -27,33 +25,24 @@ module _ (out : List ℕ) (l n : ℕ) where
       let h = (good-held (room_tests out l n) good refl g).0 in
       (leb-true l 1024 h.0, leb-true (n + l) (length out) h.1.0)
 
-  -- the same of a verdict that was asked
-  module _ (v : Verdict) (e : v ≡ in_order (room_tests out l n) good) (g : is_good v ≡ true) where
-    pub room-few : l ≤ 1024
-    room-few = (roomy (ap is_good (sym e) ∙ g)).0
+  pub room-few : good ≡ in_order (room_tests out l n) good → l ≤ 1024
+  room-few e = (roomy (ap is_good (sym e))).0
 
-    pub room-there : n + l ≤ length out
-    room-there = (roomy (ap is_good (sym e) ∙ g)).1
+  pub room-there : good ≡ in_order (room_tests out l n) good → n + l ≤ length out
+  room-there e = (roomy (ap is_good (sym e))).1
 
-    pub end_fits : (m : ℕ) → leb m 27 ≡ true → Fits w64 (m + l)
-    end_fits m t = omega (arith, room-few, leb-true m 27 t)
-
-module _ (rs : List Row) (out : List ℕ) (h : Header) (l : ℕ) (w : Verdict) (e : w ≡ in_order (room_tests out l 30) good) where
+module _ (rs : List Row) (out : List ℕ) (h : Header) (l : ℕ) where
   -- no room
-  pub room-decides : is_good w ≡ false → w ≡ packet_verdict rs out h l
+  pub room-decides : {A : Type 0} (x : Result A Refused) → IsErr x → told x ≡ in_order (room_tests out l 30) good → told x ≡ packet_verdict rs out h l
   unfolding packet_verdict
-  room-decides b = e ∙ sym (stays (room_tests out l 30) _ (ap is_good (sym e) ∙ b))
+  room-decides (Ok a) b e = absurd (false≢true b)
+  room-decides (Err f) b e = e ∙ sym (stays (room_tests out l 30) _ (ap is_good (sym e) ∙ not-good f.refusal f.place))
 
   -- room: the header's tests decide, then the unit
-  pub fields-decide : (v : Verdict) → is_good w ≡ true → v ≡ in_order (field_tests h) (judged_under rs h.command (part out 27 (27 + l)))
+  pub fields-decide : (v : Verdict) → good ≡ in_order (room_tests out l 30) good → v ≡ in_order (field_tests h) (judged_under rs h.command (part out 27 (27 + l)))
       → v ≡ packet_verdict rs out h l
   unfolding packet_verdict
-  fields-decide v g q = q ∙ sym (goes_on (room_tests out l 30) _ refl (ap is_good (sym e) ∙ g))
-
--- the unit that was judged
-pub unit-judged : (rs : List Row) (out : List ℕ) (c l : ℕ) (u : List ℕ) (v : Verdict) → u ≡ part out 27 (27 + l) → v ≡ judged_under rs c u
-    → v ≡ judged_under rs c (part out 27 (27 + l))
-unit-judged rs out c l u v e q = q ∙ ap (judged_under rs c) e
+  fields-decide v e q = q ∙ sym (goes_on (room_tests out l 30) _ refl (ap is_good (sym e)))
 
 module _ (rs : List Row) (out : List ℕ) (h : Header) (l : ℕ) where
   -- the output
@@ -72,20 +61,21 @@ module _ (rs : List Row) (out : List ℕ) (h : Header) (l : ℕ) where
       let k = (good-held (room_tests out l 30) (in_order (field_tests h) (judged_under rs h.command (part out 27 (27 + l)))) refl g).0 in
       (leb-true l 1024 k.0, leb-true (30 + l) (length out) k.1.0)
 
-  -- the same of a verdict that was asked
-  module _ (v : Verdict) (e : v ≡ packet_verdict rs out h l) where
-    pub packet-kept : is_good v ≡ false → out ≡ written_packet rs out h l
-    packet-kept b = kept (ap is_good (sym e) ∙ b)
+  -- the same of what was answered
+  pub packet-kept : {A : Type 0} (x : Result A Refused) → IsErr x → told x ≡ packet_verdict rs out h l → out ≡ written_packet rs out h l
+  packet-kept (Ok a) b e = absurd (false≢true b)
+  packet-kept (Err f) b e = kept (ap is_good (sym e) ∙ not-good f.refusal f.place)
 
-    pub packet-sealed : (w : List ℕ) → is_good v ≡ true → w ≡ put_at out 0 (packet_bytes h (part out 27 (27 + l))) → w ≡ written_packet rs out h l
-    packet-sealed w g q = q ∙ sealed (ap is_good (sym e) ∙ g)
+  module _ (e : good ≡ packet_verdict rs out h l) where
+    pub packet-sealed : (w : List ℕ) → w ≡ put_at out 0 (packet_bytes h (part out 27 (27 + l))) → w ≡ written_packet rs out h l
+    packet-sealed w q = q ∙ sealed (ap is_good (sym e))
 
-    pub packet-few : is_good v ≡ true → l ≤ 1024
-    packet-few g = (packet-roomy (ap is_good (sym e) ∙ g)).0
+    pub packet-few : l ≤ 1024
+    packet-few = (packet-roomy (ap is_good (sym e))).0
 
-    pub packet-there : is_good v ≡ true → 30 + l ≤ length out
-    packet-there g = (packet-roomy (ap is_good (sym e) ∙ g)).1
+    pub packet-there : 30 + l ≤ length out
+    packet-there = (packet-roomy (ap is_good (sym e))).1
 
-pub ruleset judging = (ordering, room-decides, fields-decide, unit-judged, end_fits)
+pub ruleset judging = (room-decides, fields-decide, room-few)
 
-pub ruleset writing = (flag-set, flag-clear, packet-kept, packet-sealed, packet-few, packet-there)
+pub ruleset writing = (packet-kept, packet-sealed, packet-few, packet-there)

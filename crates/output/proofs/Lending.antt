@@ -1,29 +1,32 @@
 -- A part of the output that is lent comes home as bytes put where it stands. Assumes nothing.
 use Prim.Native.Nat.{ℕ, ◌+◌, ◌-◌, ◌≤◌, ◌<◌}
-use native.Mathlib.Nat.{sub_self}
 use native.Mathlib.Omega.{arith}
-use mathlib.Core.Bool.{Bool, true, false, cond}
-use mathlib.Core.List.{List, [], ◌++◌, append_assoc, append-nil}
+use mathlib.Core.Bool.{Bool, true, false, cond, false≢true}
+use mathlib.Core.List.{List, ◌++◌, append_assoc, append-nil}
 use mathlib.Core.Path.{◌≡◌, refl, sym, ap, ◌∙◌}
+use borrow.Author.Tests.{eqb-true, eqb-false}
+use lib.Dec.{eqb}
 use lib.ListN.{length, take, drop, length-drop, drop_of_length-le}
 use lib.Seq.{take_all, drop-drop}
+use Rattle.std.specs.Prelude.{Result, Ok, Err, IsErr}
 use Rattle.fields.specs.declared.Fields.{Fields}
 use Rattle.fields.specs.Layouts.{object_bytes}
 use Rattle.kinds.specs.Table.{Entry, rows_of, entry_of}
 use Rattle.objects.specs.Writing.{write_verdict, written_unit}
 use Rattle.objects.specs.Texts.{text_unit, text_verdict, written_text}
 use Rattle.octets.specs.Parts.{part, put_at}
+use Rattle.octets.proofs.Flags.{by-test}
 use Rattle.octets.proofs.Parts.{part-is, length_part, put_is, length-put, rest-is}
-use Rattle.octets.proofs.Rows.{no-elements}
 use Rattle.unit.specs.Objects.{type_of, object_at}
 use Rattle.unit.specs.Units.{row_of}
+use Rattle.verdict.specs.declared.Refused.{Refused}
 use Rattle.verdict.specs.declared.Verdict.{Verdict}
-use Rattle.verdict.specs.Orders.{in_order, good, is_good}
+use Rattle.verdict.specs.Orders.{in_order, good, is_good, told}
 use Rattle.verdict.proofs.Order.{stays, goes_on}
-use Rattle.verdict.proofs.Walking.{flag-set, flag-clear}
+use Rattle.verdict.proofs.Told.{not-good}
 use Rattle.output.specs.Writing.{room_tests}
 use Rattle.output.specs.Objects.{object_verdict, written_object, written_output_text}
-use Rattle.output.proofs.Judging.{roomy, room-there, end_fits}
+use Rattle.output.proofs.Judging.{roomy, room-there}
 
 home : (o : List ℕ) (at n : ℕ) (v : List ℕ) → at + n ≤ length o → length v ≡ n → take at o ++ (v ++ drop n (drop at o)) ≡ put_at o at v
 home o at n v fits e =
@@ -51,19 +54,22 @@ length-text out t = by-test (is_good (text_verdict out t))
     by-test true = length-put out 0 (text_unit t)
     by-test false = refl
 
--- what `write_object` answers and leaves, by the verdict on the room
-module _ (es : List Entry) (o : List ℕ) (l k : ℕ) (f : Fields) (d : List ℕ) (w : Verdict) (e : w ≡ in_order (room_tests o l 27) good) where
-  pub object-refused : is_good w ≡ false → w ≡ object_verdict (rows_of es) o l k f d
+-- what `write_object` answers and leaves where the room refuses
+module _ (es : List Entry) (o : List ℕ) (l k : ℕ) (f : Fields) (d : List ℕ) where
+  pub object-refused : {A : Type 0} (x : Result A Refused) → IsErr x → told x ≡ in_order (room_tests o l 27) good → told x ≡ object_verdict (rows_of es) o l k f d
   unfolding object_verdict
-  object-refused b = e ∙ sym (stays (room_tests o l 27) (write_verdict (rows_of es) (part o 27 (27 + l)) k f d) (ap is_good (sym e) ∙ b))
+  object-refused (Ok a) b e = absurd (false≢true b)
+  object-refused (Err g) b e = e ∙ sym (stays (room_tests o l 27) (write_verdict (rows_of es) (part o 27 (27 + l)) k f d) (ap is_good (sym e) ∙ not-good g.refusal g.place))
 
-  pub object-kept : is_good w ≡ false → o ≡ written_object es o l k f d
+  pub object-kept : {A : Type 0} (x : Result A Refused) → IsErr x → told x ≡ in_order (room_tests o l 27) good → o ≡ written_object es o l k f d
   unfolding written_object
-  object-kept b = simp (ap is_good (sym e) ∙ b)
+  object-kept (Ok a) b e = absurd (false≢true b)
+  object-kept (Err g) b e = simp (ap is_good (sym e) ∙ not-good g.refusal g.place)
 
-  module _ (g : is_good w ≡ true) where
+  -- and where it does not
+  module _ (e : good ≡ in_order (room_tests o l 27) good) where
     passed : is_good (in_order (room_tests o l 27) good) ≡ true
-    passed = ap is_good (sym e) ∙ g
+    passed = ap is_good (sym e)
 
     fits : 27 + l ≤ length o
     fits = (roomy o l 27 passed).1
@@ -91,45 +97,37 @@ module _ (es : List Entry) (o : List ℕ) (l k : ℕ) (f : Fields) (d : List ℕ
         ∙ ap (put_at o 27) there
         ∙ simp passed
 
-module _ (o t : List ℕ) where
-  -- an output that does not reach byte 28 lends nothing
-  none : length o < 27 → drop 27 o ≡ []
-  none h = let past : length o ≤ 27 = omega arith in drop_of_length-le o past
+-- the text of a packet's output goes to what lies from byte 28 on, or to nothing, where the output ends before it
+module _ (o t : List ℕ) (b : ℕ) (few : b ≤ 27) (inside : b ≤ length o) (ends : b < 27 → length o ≤ b) where
+  front : take b o ≡ take 27 o
+  front =
+      by-test (eqb b 27) (λ e. ap (λ (n : ℕ). take n o) (eqb-true b 27 e))
+      (λ f. let short : b ≡ 27 → ⊥ = eqb-false b 27 f in take_all b o (omega arith) ∙ sym (take_all 27 o (omega arith)))
 
-  nothing : take (length o - length o) (drop (length o) o) ≡ []
-  nothing = ap (λ (n : ℕ). take n (drop (length o) o)) (sub_self (length o))
+  behind : drop b o ≡ drop 27 o
+  behind =
+      by-test (eqb b 27) (λ e. ap (λ (n : ℕ). drop n o) (eqb-true b 27 e))
+      (λ f.
+      let short : b ≡ 27 → ⊥ = eqb-false b 27 f in
+      let here : length o ≤ b = omega arith in
+      let there : length o ≤ 27 = omega arith in
+      drop_of_length-le o here ∙ sym (drop_of_length-le o there))
 
-  pub short-verdict : (v : Verdict) → length o < 27 → v ≡ text_verdict (take (length o - length o) (drop (length o) o)) t → v ≡ text_verdict (drop 27 o) t
-  short-verdict v h e = e ∙ ap (λ (x : List ℕ). text_verdict x t) (nothing ∙ sym (none h))
+  reached : take (length o - b) (drop b o) ≡ drop 27 o
+  reached = rest-is o b ∙ behind
 
-  pub short-home : (w : List ℕ) → length o < 27 → w ≡ written_text (take (length o - length o) (drop (length o) o)) t
-      → take (length o) o ++ (w ++ drop (length o - length o) (drop (length o) o)) ≡ written_output_text o t
-  unfolding written_output_text
-  short-home w h e =
-      let empty : written_text [] t ≡ [] = no-elements (written_text [] t) (length-text [] t) in
-      let was : w ≡ [] = e ∙ ap (λ (x : List ℕ). written_text x t) nothing ∙ empty in
-      let rest : drop (length o - length o) (drop (length o) o) ≡ [] =
-      ap (λ (n : ℕ). drop n (drop (length o) o)) (sub_self (length o)) ∙ (let past : length o ≤ length o = omega arith in drop_of_length-le o past) in
-      ap (λ (x : List ℕ). take (length o) o ++ (x ++ drop (length o - length o) (drop (length o) o))) was
-      ∙ ap (λ (x : List ℕ). take (length o) o ++ x) rest
-      ∙ append-nil (take (length o) o)
-      ∙ take_all (length o) o (omega arith)
-      ∙ sym (take_all 27 o (omega arith))
-      ∙ sym (append-nil (take 27 o))
-      ∙ ap (λ (x : List ℕ). take 27 o ++ x) (sym empty)
-      ∙ ap (λ (x : List ℕ). take 27 o ++ written_text x t) (sym (none h))
+  pub text_verdict_lem : (v : Verdict) → v ≡ text_verdict (take (length o - b) (drop b o)) t → v ≡ text_verdict (drop 27 o) t
+  text_verdict_lem v e = e ∙ ap (λ (x : List ℕ). text_verdict x t) reached
 
-  pub text_verdict_lem : (v : Verdict) → v ≡ text_verdict (take (length o - 27) (drop 27 o)) t → v ≡ text_verdict (drop 27 o) t
-  text_verdict_lem v e = e ∙ ap (λ (x : List ℕ). text_verdict x t) (rest-is o 27)
-
-  pub text-home : (w : List ℕ) → w ≡ written_text (take (length o - 27) (drop 27 o)) t → take 27 o ++ (w ++ drop (length o - 27) (drop 27 o)) ≡ written_output_text o t
+  pub text-home : (w : List ℕ) → w ≡ written_text (take (length o - b) (drop b o)) t → take b o ++ (w ++ drop (length o - b) (drop b o)) ≡ written_output_text o t
   unfolding written_output_text
   text-home w e =
-      let past : length (drop 27 o) ≤ length o - 27 = omega (arith, length-drop 27 o) in
-      ap (λ (x : List ℕ). take 27 o ++ (w ++ x)) (drop_of_length-le (drop 27 o) past)
-      ∙ ap (λ (x : List ℕ). take 27 o ++ x) (append-nil w)
-      ∙ ap (λ (x : List ℕ). take 27 o ++ x) (e ∙ ap (λ (x : List ℕ). written_text x t) (rest-is o 27))
+      let past : length (drop b o) ≤ length o - b = omega (arith, length-drop b o) in
+      ap (λ (x : List ℕ). take b o ++ (w ++ x)) (drop_of_length-le (drop b o) past)
+      ∙ ap (λ (x : List ℕ). take b o ++ x) (append-nil w)
+      ∙ ap (λ (x : List ℕ). x ++ w) front
+      ∙ ap (λ (x : List ℕ). take 27 o ++ x) (e ∙ ap (λ (x : List ℕ). written_text x t) reached)
 
-pub ruleset object-lent = (flag-set, flag-clear, end_fits, room-there, object-refused, object-kept, object_verdict_lem, object-home)
+pub ruleset object_lent = (room-there, object-refused, object-kept, object_verdict_lem, object-home)
 
-pub ruleset text-lent = (short-verdict, short-home, text_verdict_lem, text-home)
+pub ruleset text_lent = (text_verdict_lem, text-home)
