@@ -40,7 +40,7 @@ use Rattle.reading.specs.Values.{MORE, PACKET, told, packet_of}
 use Rattle.reading.specs.Standing.{when_there, judged_frame, started, stands}
 use Rattle.reading.specs.Finding.{onward, more, noise, hit, found as found_in, first, Heard, Reading, read_on, reading}
 use Rattle.reading.specs.Calls.{State, Answer, pad_to, held_bytes, sound, answer_by, called, fresh}
-use Rattle.reply.specs.declared.Due.TheVariants.{Confirm}
+use Rattle.reply.specs.Dues.{Confirm}
 use Rattle.reply.specs.Replies.{command_for}
 use Rattle.taking.specs.Boxes.{own, box_line, box_after, box_log}
 use Rattle.unit.specs.Objects.{text_size, end_of, walk, timely}

@@ -27,9 +27,7 @@ use Rattle.packet.specs.Frames.{command_of, unit_of, header_tests, judged_conten
 use Rattle.packet.specs.Headers.{header_of, opened_packet}
 use Rattle.packet.proofs.Carried.{kept-packet}
 use Rattle.place.specs.declared.Reply.TheVariants.{Confirm, Deny}
-use Rattle.reply.specs.declared.Due.{Due}
-use Rattle.reply.specs.declared.Due.TheVariants.{Nothing}
-use Rattle.reply.specs.declared.Answer.{Answer}
+use Rattle.reply.specs.Dues.{Due, Nothing, Answer}
 use Rattle.reply.specs.Replies.{is_due, command_for, due_to, reply_header, reply_bytes, due_tests, reply_tests, reply_verdict, answered, written_reply}
 use Rattle.reply.proofs.Promises.{none-to-kept}
 use Rattle.taking.specs.Takes.{taken}

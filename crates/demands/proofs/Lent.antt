@@ -12,7 +12,7 @@ use Rattle.fields.specs.declared.Fields.{Fields}
 use Rattle.label.specs.declared.Label.{Label}
 use Rattle.packet.specs.declared.Header.{Header}
 use Rattle.reading.specs.declared.Event.{Event}
-use Rattle.reply.specs.declared.Answer.{Answer}
+use Rattle.reply.specs.Dues.{Answer}
 use Rattle.verdict.specs.declared.Part.{Part}
 use Rattle.verdict.specs.declared.Verdict.{Verdict}
 use Rattle.octets.proofs.part_of.Reads as octets-part-of

@@ -31,7 +31,7 @@ use Rattle.packet.specs.Frames.{unit_of, judged_packet}
 use Rattle.packet.specs.Headers.{header_of, no_header, opened_packet}
 use Rattle.packet.specs.Headers as packet
 use Rattle.packet.proofs.Opening.{good-label}
-use Rattle.reply.specs.declared.Due.{Due}
+use Rattle.reply.specs.Dues.{Due}
 use Rattle.reply.specs.Replies.{is_due, command_for, due_tests, due_to, reply_header, reply_bytes, reply_verdict}
 use Rattle.reply.proofs.Promises.{reply-accepted}
 use Rattle.typed.specs.declared.Typed.{Typed}

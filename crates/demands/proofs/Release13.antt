@@ -19,7 +19,7 @@ use Rattle.octets.specs.Parts.{part}
 use Rattle.packet.specs.declared.Header.{Header}
 use Rattle.packet.specs.Frames.{command_of, unit_of}
 use Rattle.packet.specs.Headers.{header_of}
-use Rattle.reply.specs.declared.Due.TheVariants.{Confirm, Deny}
+use Rattle.reply.specs.Dues.{Confirm, Deny}
 use Rattle.reply.specs.Replies.{to_good, to_refused, due_as}
 use Rattle.verdict.specs.Orders.{in_order, refusal, good, is_good}
 use Rattle.verdict.specs.Refusals.{TIME}

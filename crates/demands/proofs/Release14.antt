@@ -25,8 +25,7 @@ use Rattle.packet.specs.Frames.{command_of, unit_of, header_tests}
 use Rattle.packet.specs.Headers.{header_of, read_as}
 use Rattle.packet.proofs.Carried.{unit-long}
 use Rattle.place.specs.Rules.{is_open}
-use Rattle.reply.specs.declared.Due.{Due}
-use Rattle.reply.specs.declared.Due.TheVariants.{Nothing}
+use Rattle.reply.specs.Dues.{Due, Nothing}
 use Rattle.reply.specs.Replies.{due_as, answer_as, written_reply_as}
 use Rattle.reply.proofs.Promises.{none-to-kept}
 use Rattle.taking.specs.declared.Role.{Role}

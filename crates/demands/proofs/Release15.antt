@@ -25,7 +25,7 @@ use Rattle.output.specs.Writing.{room_tests, field_tests, packet_verdict, writte
 use Rattle.packet.specs.declared.Header.{Header}
 use Rattle.packet.specs.Frames.{command_of, unit_of, header_tests, judged_content, judged_packet, unit_place}
 use Rattle.packet.specs.Headers.{header_of, read_as, opened_packet}
-use Rattle.reply.specs.declared.Due.{Due}
+use Rattle.reply.specs.Dues.{Due}
 use Rattle.reply.specs.Replies.{to_good, to_refused, due_to, answer_as, answered, written_reply_as, written_reply}
 use Rattle.taking.specs.declared.Role.{Role}
 use Rattle.taking.specs.declared.Role.TheVariants.{Other}

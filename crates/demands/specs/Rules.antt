@@ -20,7 +20,7 @@ use Rattle.output.specs.Writing.{room_tests, written_as}
 use Rattle.packet.specs.declared.Header.{Header}
 use Rattle.packet.specs.Frames.{command_of, unit_of}
 use Rattle.packet.specs.Headers.{header_of}
-use Rattle.reply.specs.declared.Due.{Due}
+use Rattle.reply.specs.Dues.{Due}
 use Rattle.reply.specs.Replies.{due_as, is_due}
 use Rattle.taking.specs.declared.Role.TheVariants.{Other}
 use Rattle.taking.specs.Takes.{role_in, taken_as}

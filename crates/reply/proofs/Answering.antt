@@ -1,31 +1,31 @@
 -- One law for each answer of the reply maker, in the words of what it was told. Assumes nothing.
 use Prim.Native.Nat.{ℕ, ◌+◌, ◌-◌}
 use native.Mathlib.Nat.{sub_self}
-use mathlib.Core.Bool.{Bool, true, false, not, cond, false≢true}
+use mathlib.Core.Bool.{Bool, true, false, cond, ◌&&◌, false≢true}
 use mathlib.Core.List.{List, []}
-use mathlib.Core.Path.{◌≡◌, refl, sym, ap, subst, ◌∙◌}
-use borrow.Author.Tests.{eqb-false}
+use mathlib.Core.Path.{◌≡◌, refl, sym, ap, ◌∙◌}
 use lib.ListN.{take, drop}
+use Rattle.std.specs.Prelude.{Option, Some, Result, Ok, Err, IsErr, IsErrAnd, ⊤}
 use Rattle.frame.specs.Frame.{frame_tests}
 use Rattle.kinds.specs.declared.Row.{Row}
 use Rattle.label.specs.declared.Label.{Label}
 use Rattle.label.specs.Times.{judged, allowed}
 use Rattle.octets.specs.Parts.{within, part, put_at}
-use Rattle.octets.proofs.Flags.{on, off}
 use Rattle.output.specs.Writing.{packet_verdict, written_packet}
 use Rattle.packet.specs.declared.Header.{Header}
-use Rattle.packet.specs.Frames.{command_of, judged_content}
 use Rattle.packet.specs.Headers.{header_of}
 use Rattle.output.specs.Packets.{packet_bytes}
 use Rattle.unit.specs.Units.{judged_under}
+use Rattle.verdict.specs.declared.Refused.{Refused}
 use Rattle.verdict.specs.declared.Verdict.{Verdict}
-use Rattle.verdict.specs.Orders.{in_order, refusal, good, is_good}
-use Rattle.verdict.specs.Refusals.{TIME}
+use Rattle.verdict.specs.Orders.{in_order, refusal, good, is_good, told}
+use Rattle.verdict.specs.Refusals.{number_of}
 use Rattle.verdict.proofs.Order.{stays, goes_on}
-use Rattle.reply.specs.declared.Due.{Due}
-use Rattle.reply.specs.declared.Due.TheVariants.{Nothing, Confirm, Deny}
-use Rattle.reply.specs.declared.Answer.{Answer}
-use Rattle.reply.specs.Replies.{to_good, to_refused, due_to, command_for, is_due, reply_header, reply_bytes, due_tests, reply_tests, reply_verdict, answered, written_reply}
+use Rattle.verdict.proofs.Told.{not-good}
+use Rattle.reply.specs.declared.Due.{Due as Sent}
+use Rattle.reply.specs.declared.Due.TheVariants as sent
+use Rattle.reply.specs.Dues.{Due, Nothing, Answer, due_told, answer_told}
+use Rattle.reply.specs.Replies.{due_to, command_for, is_due, reply_header, reply_bytes, due_tests, reply_tests, reply_verdict, answered, written_reply_as, written_reply}
 
 -- a part of no bytes
 part-empty : (s : List ℕ) (a : ℕ) → part s a a ≡ []
@@ -36,124 +36,106 @@ part-empty s a = by-test (within s a a)
     by-test true = ap (λ (n : ℕ). take n (drop a s)) (sub_self a)
     by-test false = refl
 
--- the packet writer's verdict on a reply whose label may stand is that on its room
-room-decides : (rs : List Row) (h : Header) (t : Label) (out : List ℕ) (d : Due) → is_due d ≡ true → allowed (judged t) ≡ true
-    → packet_verdict rs out (reply_header h t (command_for d)) 0 ≡ in_order (due_tests t out) good
-unfolding packet_verdict in_order judged_under
-room-decides rs h t out Nothing e a = absurd (false≢true e)
-room-decides rs h t out Confirm e a = simp (a, part-empty out 27)
-room-decides rs h t out Deny e a = simp (a, part-empty out 27)
+-- the packet writer on a reply of header h whose label may stand: its verdict is that on the room, and the packet is the reply
+module _ (rs : List Row) (p : List ℕ) (t : Label) (out : List ℕ) (d : Sent) (k : ℕ) (h : Header) (command : k ≡ command_for (due_told (Some d)))
+    (header : h ≡ reply_header (header_of p) t k) (a : allowed (judged t) ≡ true) where
+  header-is : h ≡ reply_header (header_of p) t (command_for (due_told (Some d)))
+  header-is = header ∙ ap (reply_header (header_of p) t) command
 
-due-is : (d : Due) (b : Bool) → is_due d ≡ b → (command_for d ≡ 0 → ⊥) → b ≡ true
-due-is Nothing b e n = absurd (n refl)
-due-is Confirm b e n = sym e
-due-is Deny b e n = sym e
+  pub room_decides : (v : Verdict) → v ≡ packet_verdict rs out h 0 → v ≡ in_order (due_tests t out) good
+  unfolding packet_verdict in_order judged_under
+  room_decides v e = e ∙ ap (λ (x : Header). packet_verdict rs out x 0) header-is ∙ by-due d
+    where
+      by-due : (d : Sent) → packet_verdict rs out (reply_header (header_of p) t (command_for (due_told (Some d)))) 0 ≡ in_order (due_tests t out) good
+      by-due sent.Confirm = simp (a, part-empty out 27)
+      by-due sent.Deny = simp (a, part-empty out 27)
 
-not-due-is : (d : Due) → command_for d ≡ 0 → d ≡ Nothing
-not-due-is Nothing e = refl
-not-due-is Confirm e = absurd (eqb-false 3 0 refl e)
-not-due-is Deny e = absurd (eqb-false 6 0 refl e)
+  pub reply_written : (w : List ℕ) → w ≡ written_packet rs out h 0 → w ≡ written_reply_as p t out (in_order (due_tests t out) good) (due_told (Some d))
+  unfolding written_packet
+  reply_written w e =
+      e
+      ∙ ap (λ (b : Verdict). cond (is_good b) (put_at out 0 (packet_bytes h (part out 27 (27 + 0)))) out) (room_decides (packet_verdict rs out h 0) refl)
+      ∙ ap (λ (x : List ℕ). cond (is_good (in_order (due_tests t out) good)) (put_at out 0 (packet_bytes h x)) out) (part-empty out 27)
+      ∙ ap (λ (x : Header). cond (is_good (in_order (due_tests t out) good)) (put_at out 0 (packet_bytes x [])) out) header-is
+      ∙ by-due d (is_good (in_order (due_tests t out) good)) (put_at out 0 (reply_bytes p t (due_told (Some d))))
+    where
+      by-due : (d : Sent) (g : Bool) (x : List ℕ) → cond g x out ≡ cond (g && is_due (due_told (Some d))) x out
+      by-due sent.Confirm true x = refl
+      by-due sent.Confirm false x = refl
+      by-due sent.Deny true x = refl
+      by-due sent.Deny false x = refl
 
--- what is handed back and what is left in the output are those of the definition
-abbrev pub Answers : List Row → List ℕ → Label → List ℕ → Answer → List ℕ → Type 0
-Answers rs p t out r w = (r ≡ answered rs p t out) × (w ≡ written_reply rs p t out)
+-- a label that passed its test may stand
+pub may_stand : (t : Label) (g : Bool) (e : Refused) → g ≡ allowed (judged t) → ◌≡◌ {A = Result ⊤ Refused} (Ok tt) (cond g (Ok tt) (Err e)) → allowed (judged t) ≡ true
+may_stand t true e q h = sym q
+may_stand t false e q h = cc
 
--- the reply r that is due, k being the packet's command, v its verdict and g whether that is good
-module _ (rs : List Row) (p : List ℕ) (v : Verdict) (g : Bool) (k : ℕ) (r : Due) (content : v ≡ judged_content rs p) (told : g ≡ is_good v) (command : k ≡ command_of p) where
-  pub due-to-good : g ≡ true → r ≡ to_good k → r ≡ due_to rs p
-  unfolding due_to
-  due-to-good h e = e ∙ ap to_good command ∙ simp (ap is_good (sym content) ∙ sym told ∙ h)
-
-  pub due-to-refused : g ≡ false → r ≡ to_refused k → r ≡ due_to rs p
-  unfolding due_to
-  due-to-refused h e = e ∙ ap to_refused command ∙ simp (ap is_good (sym content) ∙ sym told ∙ h)
-
--- a packet whose frame is good, the reply d that is due to it, and that reply's command k
-pub record Owing (rs : List Row) (p : List ℕ) (d : Due) (k : ℕ) : Type 0 where
-  pub framed : is_good (in_order (frame_tests 1024 p) good) ≡ true
-  pub due : d ≡ due_to rs p
-  pub command : k ≡ command_for d
-
--- a due reply that was to be written: v is the verdict on it, w what the output then held
-pub record Sending (rs : List Row) (p : List ℕ) (t : Label) (out : List ℕ) (d : Due) (v : Verdict) (w : List ℕ) : Type 0 where
-  pub due : d ≡ due_to rs p
-  pub some : is_due d ≡ true
-  pub verdict : v ≡ reply_verdict rs p t out
-  pub written : w ≡ cond (is_good v) (put_at out 0 (reply_bytes p t d)) out
-
-pub owes : (rs : List Row) (p : List ℕ) (f : Verdict) (g : Bool) (d : Due) (k : ℕ) → f ≡ in_order (frame_tests 1024 p) good → g ≡ is_good f → not g ≡ false
-    → d ≡ due_to rs p → k ≡ command_for d → Owing rs p d k
-owes rs p f g d k e told n due command = record { framed = ap is_good (sym e) ∙ on told n; due = due; command = command }
-
+-- what a frame that is refused says comes back, and nothing is written
 module _ (rs : List Row) (p : List ℕ) (t : Label) (out : List ℕ) where
-  -- an answer that says nothing is due, and leaves the output
-  silent : (v : Verdict) → v ≡ reply_verdict rs p t out → is_good v ≡ false → Answers rs p t out (record { verdict = v; due = Nothing }) out
-  unfolding answered written_reply
-  silent v e b =
-      let q : is_good (reply_verdict rs p t out) ≡ false = ap is_good (sym e) ∙ b in
-      (ap (λ (x : Verdict). record { verdict = x; due = Nothing }) e ∙ simp q, simp q)
+  answers : (v : Verdict) (d : Due) → v ≡ reply_verdict rs p t out → d ≡ cond (is_good v) (due_to rs p) Nothing
+      → ◌≡◌ {A = Answer} (record { verdict = v; due = d }) (answered rs p t out)
+  unfolding answered
+  answers v d e q = λ i. record { verdict = e i; due = (q ∙ ap (λ (x : Verdict). cond (is_good x) (due_to rs p) Nothing) e) i }
 
-  pub frame-refuses : (f : Verdict) (g : Bool) → f ≡ in_order (frame_tests 1024 p) good → g ≡ is_good f → not g ≡ true
-      → Answers rs p t out (record { verdict = f; due = Nothing }) out
-  unfolding reply_verdict
-  frame-refuses f g e told n =
-      silent f (e ∙ sym (stays (frame_tests 1024 p) (in_order (reply_tests (due_to rs p) t out) good) (ap is_good (sym e) ∙ off told n))) (off told n)
+  leaves : (v : Verdict) → v ≡ reply_verdict rs p t out → is_good v && is_due (due_to rs p) ≡ false → out ≡ written_reply rs p t out
+  unfolding written_reply
+  leaves v e b = simp (sym (ap (λ (x : Verdict). is_good x && is_due (due_to rs p)) e) ∙ b)
 
-  module _ (d : Due) (k : ℕ) (o : Owing rs p d k) where
-    verdict-is : in_order (reply_tests d t out) good ≡ reply_verdict rs p t out
+  module _ (f : Refused) (e : told {A = Option Sent} (Err f) ≡ in_order (frame_tests 1024 p) good) where
+    frame-is : told {A = Option Sent} (Err f) ≡ reply_verdict rs p t out
     unfolding reply_verdict
-    verdict-is =
-        ap (λ (x : Due). in_order (reply_tests x t out) good) o.due
-        ∙ sym (goes_on (frame_tests 1024 p) (in_order (reply_tests (due_to rs p) t out) good) refl o.framed)
+    frame-is = e ∙ sym (stays (frame_tests 1024 p) (in_order (reply_tests (due_to rs p) t out) good) (ap is_good (sym e) ∙ not-good f.refusal f.place))
 
-    pub not-due : (v : Verdict) → k ≡ 0 → v ≡ good → Answers rs p t out (record { verdict = v; due = Nothing }) out
-    unfolding answered written_reply in_order
-    not-due v n e =
-        let nothing : d ≡ Nothing = not-due-is d (sym o.command ∙ n) in
-        let none : due_to rs p ≡ Nothing = sym o.due ∙ nothing in
-        let q : good ≡ reply_verdict rs p t out = subst (λ (x : Due). in_order (reply_tests x t out) good ≡ reply_verdict rs p t out) nothing verdict-is in
-        (ap (λ (x : Verdict). record { verdict = x; due = Nothing }) e ∙ simp (sym q, none), simp (sym q, none))
+  pub frame_refuses : (x : Result (Option Sent) Refused) → IsErr x → told x ≡ in_order (frame_tests 1024 p) good → answer_told x ≡ answered rs p t out
+  frame_refuses (Ok d) h e = absurd (false≢true h)
+  frame_refuses (Err f) h e = answers (told {A = Option Sent} (Err f)) Nothing (frame-is f e) (simp (not-good f.refusal f.place))
 
-    -- a is whether the label may stand
-    module _ (some : k ≡ 0 → ⊥) (a : Bool) (label : a ≡ allowed (judged t)) where
-      is_due_lem : is_due d ≡ true
-      is_due_lem = due-is d (is_due d) refl (λ e. some (o.command ∙ e))
+  pub frame_leaves : {A : Type 0} (x : Result A Refused) → IsErr x → told x ≡ in_order (frame_tests 1024 p) good → out ≡ written_reply rs p t out
+  frame_leaves (Ok d) h e = absurd (false≢true h)
+  frame_leaves (Err f) h e = leaves (told {A = Option Sent} (Err f)) (frame-is f e) (simp (not-good f.refusal f.place))
 
-      tests : in_order (due_tests t out) good ≡ reply_verdict rs p t out
-      tests = subst (λ (x : Bool). in_order (cond x (due_tests t out) []) good ≡ reply_verdict rs p t out) is_due_lem verdict-is
+  module _ (framed : good ≡ in_order (frame_tests 1024 p) good) where
+    verdict-is : (d : Due) → d ≡ due_to rs p → in_order (reply_tests d t out) good ≡ reply_verdict rs p t out
+    unfolding reply_verdict
+    verdict-is d e =
+        ap (λ (x : Due). in_order (reply_tests x t out) good) e
+        ∙ sym (goes_on (frame_tests 1024 p) (in_order (reply_tests (due_to rs p) t out) good) refl (ap is_good (sym framed)))
 
-      pub bad-label : (v : Verdict) → not a ≡ true → v ≡ refusal TIME 0 → Answers rs p t out (record { verdict = v; due = Nothing }) out
+    -- none is due
+    module _ (none : Nothing ≡ due_to rs p) where
+      none-is : good ≡ reply_verdict rs p t out
       unfolding in_order
-      bad-label v b e = silent v (e ∙ (simp (off label b) at tests)) (ap is_good e)
+      none-is = verdict-is Nothing none
 
-      pub sends : (h : Header) (v : Verdict) (w : List ℕ) → not a ≡ false → h ≡ reply_header (header_of p) t k → v ≡ packet_verdict rs out h 0
-          → w ≡ written_packet rs out h 0 → Sending rs p t out d v w
-      unfolding written_packet
-      sends h v w stands head e written =
-          let header : h ≡ reply_header (header_of p) t (command_for d) = head ∙ ap (reply_header (header_of p) t) o.command in
-          record {
-            due = o.due;
-            some = is_due_lem;
-            verdict = e ∙ ap (λ (x : Header). packet_verdict rs out x 0) header ∙ room-decides rs (header_of p) t out d is_due_lem (on label stands) ∙ tests;
-            written =
-                written
-                ∙ ap (λ (b : Verdict). cond (is_good b) (put_at out 0 (packet_bytes h (part out 27 (27 + 0)))) out) (sym e)
-                ∙ ap (λ (x : Header). cond (is_good v) (put_at out 0 (packet_bytes x (part out 27 (27 + 0)))) out) header
-                ∙ ap (λ (x : List ℕ). cond (is_good v) (put_at out 0 (packet_bytes (reply_header (header_of p) t (command_for d)) x)) out) (part-empty out 27);
-          }
+      pub none_due : ◌≡◌ {A = Answer} (record { verdict = good; due = Nothing }) (answered rs p t out)
+      none_due = answers good Nothing none-is none
 
-  -- s is whether the verdict is good
-  module _ (d : Due) (v : Verdict) (w : List ℕ) (sending : Sending rs p t out d v w) (s : Bool) (told : s ≡ is_good v) where
-    pub no_room : not s ≡ true → Answers rs p t out (record { verdict = v; due = Nothing }) w
-    no_room n =
-        let r = silent v sending.verdict (off told n) in
-        (r.0, sending.written ∙ simp (off told n) r.1)
+      pub none_leaves : out ≡ written_reply rs p t out
+      none_leaves = leaves good none-is (ap is_due (sym none))
 
-    pub sent : not s ≡ false → Answers rs p t out (record { verdict = v; due = d }) w
-    unfolding answered written_reply
-    sent n =
-        let q : is_good (reply_verdict rs p t out) ≡ true = ap is_good (sym sending.verdict) ∙ on told n in
-        let l : is_due (due_to rs p) ≡ true = ap is_due (sym sending.due) ∙ sending.some in (
-          (λ i. record { verdict = sending.verdict i; due = sending.due i }) ∙ simp q,
-          sending.written ∙ simp (q, l, on told n) (ap (λ (x : Due). put_at out 0 (reply_bytes p t x)) sending.due),
-        )
+    -- one is due
+    module _ (d : Sent) (due : due_told (Some d) ≡ due_to rs p) where
+      due-is : in_order (due_tests t out) good ≡ reply_verdict rs p t out
+      due-is = ap (λ (b : Bool). in_order (cond b (due_tests t out) []) good) (is-due d) ∙ verdict-is (due_told (Some d)) due
+        where
+          is-due : (d : Sent) → true ≡ is_due (due_told (Some d))
+          is-due sent.Confirm = refl
+          is-due sent.Deny = refl
+
+      pub not_sent : (x : Result (Option Sent) Refused) (f : Refused) → IsErrAnd x (λ e. e ≡ f) → refusal (number_of f.refusal) f.place ≡ in_order (due_tests t out) good
+          → answer_told x ≡ answered rs p t out
+      not_sent (Ok d) f h e = absurd h
+      not_sent (Err g) f h e =
+          answers (told {A = Option Sent} (Err g)) Nothing (ap (λ (x : Refused). refusal (number_of x.refusal) x.place) h ∙ e ∙ due-is) (simp (not-good g.refusal g.place))
+
+      pub sent_due : good ≡ in_order (due_tests t out) good → ◌≡◌ {A = Answer} (record { verdict = good; due = due_told (Some d) }) (answered rs p t out)
+      sent_due e = answers good (due_told (Some d)) (e ∙ due-is) due
+
+      pub sent_written : (w : List ℕ) → w ≡ written_reply_as p t out (in_order (due_tests t out) good) (due_told (Some d)) → w ≡ written_reply rs p t out
+      unfolding written_reply
+      sent_written w e =
+          e
+          ∙ ap (λ (v : Verdict). written_reply_as p t out v (due_told (Some d))) due-is
+          ∙ ap (written_reply_as p t out (reply_verdict rs p t out)) due
+
+pub ruleset answering = (frame_refuses, frame_leaves, none_due, none_leaves, sent_due)

@@ -19,9 +19,7 @@ use Rattle.unit.specs.Units.{judged_unit, judged_under}
 use Rattle.verdict.specs.declared.Verdict.{Verdict}
 use Rattle.verdict.specs.Orders.{in_order, refusal, good}
 use Rattle.verdict.specs.Refusals.{CUT, SUM, TIME, ROOM}
-use Rattle.reply.specs.declared.Due.{Due}
-use Rattle.reply.specs.declared.Due.TheVariants.{Nothing, Confirm, Deny}
-use Rattle.reply.specs.declared.Answer.{Answer}
+use Rattle.reply.specs.Dues.{Due, Nothing, Confirm, Deny, Answer}
 use Rattle.reply.specs.Replies.{due_to, reply_verdict, answered}
 
 abbrev june : Label

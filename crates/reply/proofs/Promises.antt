@@ -16,8 +16,7 @@ use Rattle.packet.specs.Headers.{header_of}
 use Rattle.unit.specs.Units.{is_kept, judged_under}
 use Rattle.unit.proofs.Under.{by-kept}
 use Rattle.verdict.specs.Orders.{in_order, good, is_good}
-use Rattle.reply.specs.declared.Due.{Due}
-use Rattle.reply.specs.declared.Due.TheVariants.{Nothing, Confirm, Deny}
+use Rattle.reply.specs.Dues.{Due, Nothing, Confirm, Deny}
 use Rattle.reply.specs.Replies.{to_good, to_refused, due_to, is_due, reply_header, reply_bytes}
 
 -- to a confirm, an answer or a denial no reply is due, whatever the judge says of it

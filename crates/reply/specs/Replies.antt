@@ -13,9 +13,7 @@ use Rattle.output.specs.Packets.{packet_bytes}
 use Rattle.verdict.specs.declared.Verdict.{Verdict}
 use Rattle.verdict.specs.Orders.{Test, ◌or_else◌, in_order, good, is_good}
 use Rattle.verdict.specs.Refusals.{TIME, ROOM}
-use Rattle.reply.specs.declared.Due.{Due}
-use Rattle.reply.specs.declared.Due.TheVariants.{Nothing, Confirm, Deny}
-use Rattle.reply.specs.declared.Answer.{Answer}
+use Rattle.reply.specs.Dues.{Due, Nothing, Confirm, Deny, Answer}
 
 -- "To a packet judged good: 1 and 2 get confirm; 3, 4, 5, 6 get none."
 abbrev pub to_good : ℕ → Due

@@ -1,130 +1,106 @@
-// The reply maker.
+//! The reply maker.
 #![tactic(auto)]
 
-ghost use Rattle.std.specs.Prelude.{◌≡◌};
+ghost use Rattle.std.specs.Prelude.{◌≡◌, Some};
 ghost use Rattle.kinds.specs.Table.{rows};
 ghost use Rattle.packet.specs.Headers.{header_of};
-ghost use Rattle.reply.specs.Replies.{to_good, to_refused, due_to, command_for, reply_header, answered, written_reply};
+ghost use Rattle.verdict.specs.Orders.{in_order, good, told};
+ghost use Rattle.reply.specs.Dues.{due_told, answer_told};
+ghost use Rattle.reply.specs.Replies.{to_good, to_refused, due_to, command_for, reply_header, due_tests, answered, written_reply_as, written_reply};
 
 use label::Label;
 use packet::Header;
-use verdict::Verdict;
+use verdict::{Refusal, Refused, ensure};
 
-// The reply that is due to a packet.
-#[derive(Clone, Copy)]
+/// The reply that is due to a packet.
+#[derive(Clone, Copy, Debug, PartialEq, Eq, Hash)]
 pub enum Due {
-    Nothing,
-    Confirm,
-    Deny,
+    Confirm = 3,
+    Deny = 6,
 }
 
 impl Due {
-    // The reply's command, 0 where none is due.
+    /// The reply's command.
+    #[inline]
     pub fn command(self) -> u8
-        ensures { result ≡ command_for self }
+        ensures { result ≡ command_for (due_told (Some self)) }
     {
-        match self {
-            Due::Nothing => 0,
-            Due::Confirm => 3,
-            Due::Deny => 6,
-        }
+        self as u8
     }
 }
 
-// What was written: nothing where no reply is due or where it is refused.
-#[derive(Clone, Copy)]
-pub struct Answer {
-    pub verdict: Verdict,
-    pub due: Due,
-}
-
-// The reply to a packet, with the caller's label, to the front of a lent output.
-pub fn answer_to(p: &[u8], label: Label, out: &mut [u8]) -> Answer
-    ensures value { result ≡ answered rows p.now label out.old }
+/// The reply to a packet, with the caller's label, to the front of a lent output; nothing is written where none is due or where it is refused.
+#[tactic(auto, using(crate::proofs::Answering::answering))]
+pub fn answer_to(p: &[u8], label: Label, out: &mut [u8]) -> Result<Option<Due>, Refused>
+    ensures value { answer_told result ≡ answered rows p.now label out.old }
     ensures out_after { out.new ≡ written_reply rows p.now label out.old }
 {
-    let frame = frame::judge_frame(p);
-    if !frame.is_good() {
-        return Answer {
-            verdict: frame,
-            due: Due::Nothing,
-        };
-    }
-    let due = due_to(p);
-    let command = due.command();
-    if command == 0 {
-        return Answer {
-            verdict: Verdict::good(),
-            due: Due::Nothing,
-        };
-    }
-    if !label.is_allowed() {
-        return Answer {
-            verdict: Verdict::refused(verdict::TIME, 0),
-            due: Due::Nothing,
-        };
-    }
-    let verdict = output::write(out, header_for(p, label, command), 0);
-    if !verdict.is_good() {
-        return Answer {
-            verdict,
-            due: Due::Nothing,
-        };
-    }
-    Answer { verdict, due }
+    frame::judge_frame(p)?;
+    let Some(due) = due_to(p) else {
+        return Ok(None);
+    };
+    send(p, due, label, out)?;
+    Ok(Some(due))
 }
 
-// What is due to a packet whose frame is good.
-fn due_to(p: &[u8]) -> Due
-    ensures { result ≡ due_to rows p.now }
+/// What is due to a packet whose frame is good.
+#[tactic(auto, unfolding(crate::specs::Replies::due_to))]
+fn due_to(p: &[u8]) -> Option<Due>
+    ensures { due_told result ≡ due_to rows p.now }
 {
     let command = octets::byte_at(p, 26);
-    if packet::judge_content(p).is_good() {
-        return to_good(command);
+    match packet::judge_content(p) {
+        Ok(()) => to_good(command),
+        Err(_) => to_refused(command),
     }
-    to_refused(command)
 }
 
-fn to_good(command: u8) -> Due
-    ensures { result ≡ to_good command }
+/// A request that is good gets a confirm.
+fn to_good(command: u8) -> Option<Due>
+    ensures { due_told result ≡ to_good command }
 {
-    if command == 1 {
-        return Due::Confirm;
+    match command {
+        1 | 2 => Some(Due::Confirm),
+        _ => None,
     }
-    if command == 2 {
-        return Due::Confirm;
-    }
-    Due::Nothing
 }
 
-fn to_refused(command: u8) -> Due
-    ensures { result ≡ to_refused command }
+/// What is refused gets a deny, unless it is a reply.
+fn to_refused(command: u8) -> Option<Due>
+    ensures { due_told result ≡ to_refused command }
 {
-    if command == 3 {
-        return Due::Nothing;
+    match command {
+        3 | 5 | 6 => None,
+        _ => Some(Due::Deny),
     }
-    if command == 5 {
-        return Due::Nothing;
-    }
-    if command == 6 {
-        return Due::Nothing;
-    }
-    Due::Deny
 }
 
-// Serial and user version copied, the addresses swapped.
+/// A reply that is due, written to the front of a lent output: TIME of the label, then ROOM.
+fn send(p: &[u8], due: Due, label: Label, out: &mut [u8]) -> Result<(), Refused>
+    ensures value { told result ≡ in_order (due_tests label out.old) good }
+    ensures out_after { out.new ≡ written_reply_as p.now label out.old (in_order (due_tests label out.old) good) (due_told (Some due)) }
+{
+    ensure(label.is_allowed(), Refusal::Time)?;
+    output::write(out, header_for(p, label, due.command()), 0)
+}
+
+/// Serial and user version copied, the addresses swapped.
 fn header_for(p: &[u8], label: Label, command: u8) -> Header
     ensures { result ≡ reply_header (header_of p.now) label command }
 {
-    let h = packet::header_of(p);
-    let source = h.destination;
-    let destination = h.source;
-    Header {
-        serial: h.serial,
-        version: h.version,
-        label,
+    let Header {
+        serial,
+        version,
         source,
         destination,
+        ..
+    } = packet::header_of(p);
+    Header {
+        serial,
+        version,
+        label,
+        source: destination,
+        destination: source,
         command,
     }
 }

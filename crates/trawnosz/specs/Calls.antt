@@ -2,7 +2,7 @@
 -- Assumes nothing.
 use Rattle.reading.specs.Values.{told}
 use Rattle.receiver.specs.declared.Served.{Served}
-use Rattle.reply.specs.declared.Answer.{Answer}
+use Rattle.reply.specs.Dues.{Answer}
 use Rattle.reply.specs.Replies.{command_for}
 use Rattle.trawnosz.specs.declared.ServedC.{ServedC}
 use Rattle.trawnosz.specs.declared.AnswerC.{AnswerC}
