@@ -1,7 +1,8 @@
 -- The calls' answers, one law for each test that decides. Assumes nothing.
 use Prim.Native.Nat.{ℕ, ◌-◌, ◌≤◌, ◌<◌}
 use native.Mathlib.Omega.{arith}
-use mathlib.Core.Bool.{Bool, true, false, and-eq-true_iff, false≢true}
+use Rattle.std.specs.Prelude.{Some, None}
+use mathlib.Core.Bool.{Bool, true, false, cond, and-eq-true_iff, false≢true}
 use mathlib.Core.List.{List, map}
 use mathlib.Core.Path.{◌≡◌, refl, sym, ap, subst⁻¹, ◌∙◌}
 use borrow.Author.Tests.{lt-ltb, le-ltb, ltb-true, ltb-false}
@@ -12,12 +13,11 @@ use Rattle.verdict.specs.Refusals.{STATE, SETTING, FULL, STRAY, CENTRE}
 use Rattle.verdict.specs.Orders.{good, refusal, is_good, in_order}
 use Rattle.place.specs.declared.Reply.{Reply}
 use Rattle.exchange.specs.declared.Exchanges.{Exchanges}
-use Rattle.exchange.specs.declared.Found.{Found}
+use Rattle.exchange.specs.Table.{Found}
 use Rattle.exchange.specs.declared.Replied.{Replied}
-use Rattle.exchange.specs.declared.Ticked.{Ticked}
 use Rattle.places.specs.declared.Swept.{Swept}
 use Rattle.places.specs.Rows.{free_at, lowest_free, low_of, end_of, all_sound, aged, report, swept}
-use Rattle.exchange.specs.Table.{address_at, centre_of, settled, legal, blank, made, lowest_of, serial_of, unfound, found, placed, fitting_of, stepped, untold, answered, unticked, ticking}
+use Rattle.exchange.specs.Table.{address_at, centre_of, settled, legal, blank, made, lowest_of, serial_of, unfound, found, placed, fitting_of, stepped, untold, answered, unticked, ticked_by, ticking}
 
 -- making a table
 module _ (t r : ℕ) (a b : List ℕ) where
@@ -134,27 +134,23 @@ module _ (x : Exchanges) where
   unfolding ticking in_order
   ticking-state e = simp e
 
-  abbrev pub after-tick : Swept → Ticked
-  after-tick all = record { verdict = good; reports = all.reports; state = placed x all.places }
-
-  pub ticking-by : legal x ≡ true → ticking x ≡ after-tick (swept x.timeout x.resends x.places)
+  pub ticking-by : legal x ≡ true → ticking x ≡ ticked_by x good (swept x.timeout x.resends x.places)
   unfolding ticking in_order
   ticking-by e = simp e
 
+  -- what it makes of the places and tells of them
+  abbrev pub all-ticked : Swept
+  all-ticked = record { places = map (aged x.timeout x.resends) x.places; reports = map (report x.timeout x.resends) x.places }
+
+  pub sweeps : (b : Bool) → all_sound x.timeout x.resends x.places ≡ b → swept x.timeout x.resends x.places ≡ cond b (Some all-ticked) None
+  unfolding swept
+  sweeps b e = ap (λ (g : Bool). cond g (Some all-ticked) None) e
+
   pub ticking-good : legal x ≡ true
       → ticking x
-      ≡ after-tick (record {
-        sound = true;
-        places = map (aged x.timeout x.resends) x.places;
-        reports = map (report x.timeout x.resends) x.places;
-      })
-  unfolding swept
-  ticking-good e =
-      let all : swept x.timeout x.resends x.places
       ≡ record {
-        sound = true;
-        places = map (aged x.timeout x.resends) x.places;
+        verdict = good;
         reports = map (report x.timeout x.resends) x.places;
-      } =
-      simp (legal-parts e).1 in
-      ticking-by e ∙ ap after-tick all
+        state = placed x (map (aged x.timeout x.resends) x.places);
+      }
+  ticking-good e = ticking-by e ∙ ap (ticked_by x good) (sweeps true (legal-parts e).1)

@@ -24,7 +24,7 @@ use Rattle.verdict.proofs.Order.{passed, failed, joined, good-held, held-good, s
 use Rattle.exchange.specs.declared.Begun.{Begun}
 use Rattle.exchange.specs.declared.Draft.{Draft}
 use Rattle.exchange.specs.declared.Exchanges.{Exchanges}
-use Rattle.exchange.specs.declared.Found.{Found}
+use Rattle.exchange.specs.Table.{Found}
 use Rattle.exchange.specs.Begins.{headed_by, headed, mode_of, opening_tests, draft_verdict, begun_verdict, unbegun, begun, begun_output}
 use Rattle.exchange.specs.Table.{address_at, legal, lowest_of, begin_tests, found, entered}
 

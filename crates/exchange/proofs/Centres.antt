@@ -17,7 +17,7 @@ use Rattle.octets.proofs.Searches.{first-same, first-is, found-there, first_fits
 use Rattle.output.specs.Writing.{packet_verdict, written_packet}
 use Rattle.place.specs.declared.Place.{Place}
 use Rattle.place.specs.declared.Reply.{Reply}
-use Rattle.place.specs.declared.Step.{Step}
+use Rattle.place.specs.Steps.{Step}
 use Rattle.place.specs.Rules.{is_open, holds, opened}
 use Rattle.place.specs.Steps.{fits, replied, ticked}
 use Rattle.places.specs.Rows.{place_at, free_at, holds_at, fits_at, lowest_free, is_open_as, upward, serial_for, fitting, low_of, end_of, owner_of, nothing, report}
@@ -28,13 +28,13 @@ use Rattle.exchange.specs.declared.Begun.{Begun}
 use Rattle.exchange.specs.declared.Centre.{Centre}
 use Rattle.exchange.specs.declared.Draft.{Draft}
 use Rattle.exchange.specs.declared.Exchanges.{Exchanges}
-use Rattle.exchange.specs.declared.Found.{Found}
+use Rattle.exchange.specs.Table.{Found}
 use Rattle.exchange.specs.declared.Replied.{Replied}
 use Rattle.exchange.specs.Begins.{headed_by, mode_of, opening_tests, draft_verdict, begun_verdict, begun, begun_output}
 use Rattle.exchange.specs.Calls.{Asked, begun_by, Call, begin, reply, tick, after, Sound}
 use Rattle.exchange.specs.Centres.{listed, eight_of, own_of, Answer, to_begin, to_reply, to_tick, answer_to, spared}
 use Rattle.exchange.specs.Table.{centre, centre_at, address_at, next_at, centre_of, lowest_of, serial_of, found, entered, fitting_of, stepped, answered, ticking}
-use Rattle.exchange.proofs.Answers.{found-full, found-good, found_inside, answered-outside, answered-stray, answered-good, ticking-by}
+use Rattle.exchange.proofs.Answers.{found-full, found-good, found_inside, answered-outside, answered-stray, answered-good, ticking-good}
 use Rattle.exchange.proofs.Begins.{find-decides, draft-decides, taken_by_lem, begun-refused, output-kept, begun-good, output-written}
 use Rattle.exchange.proofs.Changes.{begin-refused, begin-unwritten, begun-owner, begin-others, begin-other-centre, reply-rest, tick-rest, address_stays, settings-stay, tick-each, tick-tells}
 use Rattle.exchange.proofs.Kept.{rules-of, renamed, fitting-low}
@@ -353,9 +353,9 @@ module _ (c : ℕ) (own : c < 2) (x y : Exchanges) (sx : Sound x) (sy : Sound y)
   tick-alike =
       let rx = tick-rest x in
       let ry = tick-rest y in (
-        (λ i. to_tick (ticking-by x sx.kept i).verdict
+        (λ i. to_tick (ticking-good x sx.kept i).verdict
             (listed_same (λ (k : ℕ). get_or (ticking x).reports k nothing) (λ (k : ℕ). get_or (ticking y).reports k nothing) (low_of c) 8 reports i))
-            ∙ sym (λ i. to_tick (ticking-by y sy.kept i).verdict (eight_of c (λ (k : ℕ). get_or (ticking y).reports k nothing))),
+            ∙ sym (λ i. to_tick (ticking-good y sy.kept i).verdict (eight_of c (λ (k : ℕ). get_or (ticking y).reports k nothing))),
         record {
           timeout = ap (λ (z : Exchanges). z.timeout) rx ∙ a.timeout ∙ sym (ap (λ (z : Exchanges). z.timeout) ry);
           resends = ap (λ (z : Exchanges). z.resends) rx ∙ a.resends ∙ sym (ap (λ (z : Exchanges). z.resends) ry);

@@ -29,7 +29,7 @@ use Rattle.exchange.specs.Table.{found, placed, entered, fitting_of, reply_tests
 use Rattle.exchange.specs.Calls.{Asked, begun_by, Call, begin, reply, tick, verdict_of, after, run, Sound}
 use Rattle.places.proofs.Serials.{serial-unopened, serial-first}
 use Rattle.places.proofs.Rules.{unchanged}
-use Rattle.exchange.proofs.Answers.{Inside, found_inside, found-lowest, found-serial, ticking-state, ticking-by, ticking-good}
+use Rattle.exchange.proofs.Answers.{Inside, found_inside, found-lowest, found-serial, ticking-state, ticking-good}
 use Rattle.exchange.proofs.Begins.{Taken, taken_by_lem, begun-refused, output-kept, opening-at, begun-good, begun_verdict_lem}
 use Rattle.exchange.proofs.Kept.{aged-at, told_at, run_sound, made-sound}
 
@@ -64,7 +64,7 @@ module _ (x : Exchanges) where
   pub tick-refused : is_good (ticking x).verdict ≡ false → ticking x ≡ unticked x (ticking x).verdict
   tick-refused e =
       by-test (legal x)
-      (λ l. absurd (true≢false (sym (ap (λ (y : Ticked). is_good y.verdict) (ticking-by x l)) ∙ e)))
+      (λ l. absurd (true≢false (sym (ap (λ (y : Ticked). is_good y.verdict) (ticking-good x l)) ∙ e)))
       (λ l. ticking-state x l ∙ ap (λ (y : Ticked). unticked x y.verdict) (sym (ticking-state x l)))
 
 -- so a refused call changes nothing
@@ -197,7 +197,7 @@ module _ (x : Exchanges) (a : List ℕ) (s : ℕ) (w : Reply) where
 pub tick-rest : (x : Exchanges) → (ticking x).state ≡ placed x (ticking x).state.places
 tick-rest x =
     by-test (legal x)
-    (λ l. let is = ap (λ (y : Ticked). y.state) (ticking-by x l) in is ∙ ap (λ (y : Exchanges). placed x y.places) (sym is))
+    (λ l. let is = ap (λ (y : Ticked). y.state) (ticking-good x l) in is ∙ ap (λ (y : Exchanges). placed x y.places) (sym is))
     (λ l. let is = ap (λ (y : Ticked). y.state) (ticking-state x l) in is ∙ ap (λ (y : Exchanges). placed x y.places) (sym is))
 
 -- no call changes T or R

@@ -9,7 +9,7 @@ use mathlib.Core.Path.{◌≡◌, refl, ap, subst⁻¹, subst₂, subst₃}
 use Rattle.verdict.specs.declared.Verdict.{Verdict}
 use Rattle.verdict.specs.Orders.{is_good}
 use Rattle.place.specs.declared.Place.{Place}
-use Rattle.place.specs.declared.Step.{Step}
+use Rattle.place.specs.Steps.{Step}
 use Rattle.place.specs.Rules.{opened, is_open, keeps}
 use Rattle.place.specs.Steps.{NOTHING, FAILED, is_end, becomes}
 use Rattle.place.proofs.Kept.{open_kept}

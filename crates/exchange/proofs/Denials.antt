@@ -8,7 +8,7 @@ use borrow.Author.Tests.{ltb-true, ltb-false, lt-ltb, le-ltb, eqb-true, eqb-fals
 use lib.Dec.{ltb, eqb}
 use Rattle.place.specs.declared.Place.{Place}
 use Rattle.place.specs.declared.Reply.TheVariants.{Confirm, Answer, Deny, BadAnswer}
-use Rattle.place.specs.declared.Step.{Step}
+use Rattle.place.specs.Steps.{Step}
 use Rattle.place.specs.Rules.{free, is_open, keeps}
 use Rattle.place.specs.Steps.{NOTHING, CONFIRMED, ANSWERED, RESENT, FAILED, once_more, one_older, becomes, denied, ticked, fits, replied}
 use Rattle.place.proofs.Answers.{sent-again, has-failed}

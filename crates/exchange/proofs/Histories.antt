@@ -12,7 +12,7 @@ use Rattle.octets.proofs.Flags.{by-test}
 use Rattle.verdict.specs.declared.Verdict.{Verdict}
 use Rattle.verdict.specs.Orders.{is_good}
 use Rattle.place.specs.declared.Place.{Place}
-use Rattle.place.specs.declared.Step.{Step}
+use Rattle.place.specs.Steps.{Step}
 use Rattle.place.specs.Rules.{free, opened, is_open}
 use Rattle.place.proofs.Lives.{On, Turn, on, over}
 use Rattle.places.specs.Rows.{place_at}

@@ -12,7 +12,7 @@ use Rattle.octets.proofs.Searches.{first-is}
 use Rattle.verdict.specs.Orders.{is_good}
 use Rattle.place.specs.declared.Place.{Place}
 use Rattle.place.specs.declared.Reply.{Reply}
-use Rattle.place.specs.declared.Step.{Step}
+use Rattle.place.specs.Steps.{Step}
 use Rattle.place.specs.Rules.{opened}
 use Rattle.place.specs.Steps.{NOTHING, becomes, replied}
 use Rattle.place.proofs.Kept.{fits-holds}

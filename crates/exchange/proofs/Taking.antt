@@ -15,13 +15,13 @@ use Rattle.verdict.specs.Refusals.{STATE, FULL, STRAY, CENTRE}
 use Rattle.verdict.specs.Orders.{good, refusal, is_good}
 use Rattle.place.specs.declared.Place.{Place}
 use Rattle.place.specs.declared.Reply.{Reply}
-use Rattle.place.specs.declared.Step.{Step}
+use Rattle.place.specs.Steps.{Step}
 use Rattle.place.specs.Rules.{is_open}
 use Rattle.place.specs.Steps.{NOTHING, becomes, replied}
 use Rattle.place.proofs.Lives.{replied-speaks}
 use Rattle.places.specs.Rows.{place_at, free_at, lowest_free, fits_at, fitting, low_of, end_of, owner_of}
 use Rattle.exchange.specs.declared.Exchanges.{Exchanges}
-use Rattle.exchange.specs.declared.Found.{Found}
+use Rattle.exchange.specs.Table.{Found}
 use Rattle.exchange.specs.declared.Replied.{Replied}
 use Rattle.exchange.specs.declared.Ticked.{Ticked}
 use Rattle.exchange.specs.Begins.{draft_verdict, unbegun}
@@ -29,7 +29,7 @@ use Rattle.exchange.specs.Table.{address_at, centre_of, legal, lowest_of, unfoun
 use Rattle.exchange.specs.Calls.{Asked, begun_by, Call, begin, reply, tick, verdict_of, Sound}
 use Rattle.exchange.specs.Logs.{line_of, begins, answers}
 use Rattle.exchange.specs.Steps.{fits_from, step_by}
-use Rattle.exchange.proofs.Answers.{found-state, found-outside, found-full, found-good, answered-state, answered-outside, answered-stray, answered-good, ticking-state, ticking-by}
+use Rattle.exchange.proofs.Answers.{found-state, found-outside, found-full, found-good, answered-state, answered-outside, answered-stray, answered-good, ticking-state, ticking-good}
 use Rattle.exchange.proofs.Begins.{find-decides, draft-decides, begun-refused, begun_verdict_lem}
 use Rattle.exchange.proofs.Kept.{rules-of}
 use Rattle.exchange.proofs.Steps.{fitting-is, each_step}
@@ -127,7 +127,7 @@ module _ (x : Exchanges) (sound : Sound x) where
 
   -- a tick, always
   pub tick-taken : (ticking x).verdict ≡ good
-  tick-taken = ap (λ (y : Ticked). y.verdict) (ticking-by x sound.kept)
+  tick-taken = ap (λ (y : Ticked). y.verdict) (ticking-good x sound.kept)
 
 -- any call on a table that breaks the rules
 pub broken-refused : (x : Exchanges) → legal x ≡ false → (c : Call) → verdict_of x c ≡ refusal STATE 0

@@ -11,7 +11,7 @@ use Rattle.octets.proofs.Flags.{by-test}
 use Rattle.verdict.specs.declared.Verdict.{Verdict}
 use Rattle.verdict.specs.Orders.{is_good}
 use Rattle.place.specs.declared.Place.{Place}
-use Rattle.place.specs.declared.Step.{Step}
+use Rattle.place.specs.Steps.{Step}
 use Rattle.place.specs.Rules.{opened, is_open, holds, keeps}
 use Rattle.place.specs.Steps.{NOTHING, becomes, replied}
 use Rattle.place.proofs.Kept.{open-holds}

@@ -1,3 +1,4 @@
+pub mod Addresses
 pub mod Table
 pub mod Begins
 pub mod Before

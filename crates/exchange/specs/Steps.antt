@@ -3,7 +3,7 @@
 use Rattle.std.specs.Prelude.{ℕ, ◌+◌, Bool, true, false, ◌&&◌, cond, List, eqb}
 use Rattle.place.specs.declared.Reply.{Reply}
 use Rattle.place.specs.declared.Reply.TheVariants.{Confirm, Answer, Deny, BadAnswer}
-use Rattle.place.specs.declared.Step.{Step}
+use Rattle.place.specs.Steps.{Step}
 use Rattle.place.specs.Rules.{is_open}
 use Rattle.place.specs.Steps.{NOTHING, becomes, ticked, fits, replied}
 use Rattle.places.specs.Rows.{place_at, owner_of}

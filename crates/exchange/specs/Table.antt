@@ -1,10 +1,12 @@
 -- The exchange table and its calls (document 01, "Open exchanges"; 001, 6.5), for two monitoring centres (document 02, Q-11).
 -- Assumes nothing.
-use Rattle.std.specs.Prelude.{ℕ, Bool, not, ◌&&◌, cond, List, [], ◌∷◌, leb, ltb, get_or, set, replicate}
+use Rattle.std.specs.Prelude.{ℕ, Bool, not, ◌&&◌, cond, List, [], ◌∷◌, leb, ltb, get_or, set, replicate, Option, Some, None, Result, Ok, Err}
 use Rattle.octets.specs.Searches.{first_fit, same}
 use Rattle.verdict.specs.declared.Verdict.{Verdict}
-use Rattle.verdict.specs.Refusals.{STATE, SETTING, FULL, STRAY, CENTRE}
-use Rattle.verdict.specs.Orders.{Test, refusal, good, is_good, in_order, ◌or_else◌}
+use Rattle.verdict.specs.declared.Refused.{Refused}
+use Rattle.verdict.specs.Refusals.{STATE, SETTING, FULL, STRAY, CENTRE, number_of}
+use Rattle.verdict.specs.declared.Refusal.TheVariants.{State, Full, Stray, Centre as OfCentre}
+use Rattle.verdict.specs.Orders.{Test, refusal, good, is_good, in_order, ◌or_else◌, refused_at}
 use Rattle.place.specs.declared.Place.{Place}
 use Rattle.place.specs.declared.Reply.{Reply}
 use Rattle.place.specs.Rules.{free, opened}
@@ -12,10 +14,11 @@ use Rattle.place.specs.Steps.{NOTHING, replied}
 use Rattle.exchange.specs.declared.Centre.{Centre}
 use Rattle.exchange.specs.declared.Exchanges.{Exchanges}
 use Rattle.exchange.specs.declared.Made.{Made}
-use Rattle.exchange.specs.declared.Found.{Found}
-use Rattle.exchange.specs.declared.Reached.{Reached}
 use Rattle.exchange.specs.declared.Replied.{Replied}
 use Rattle.exchange.specs.declared.Ticked.{Ticked}
+use Rattle.places.specs.declared.Swept.{Swept}
+use Rattle.places.specs.declared.Unfound.{Unfound}
+use Rattle.places.specs.declared.Unfound.TheVariants.{Broken, Outside, Nothing}
 use Rattle.places.specs.Rows.{place_at, lowest_free, upward, serial_for, fitting, low_of, end_of, all_sound, nothing, swept}
 
 -- "Timeout T is 1 to 10 ticks, resends R 0 to 9."
@@ -69,6 +72,12 @@ serial_of x c = serial_for x.places (low_of c) (end_of c) (next_at x c)
 abbrev pub begin_tests : Exchanges → ℕ → List Test
 begin_tests x c = (legal x or_else STATE) ∷ (ltb c 2 or_else CENTRE) ∷ (ltb (lowest_of x c) (end_of c) or_else FULL) ∷ []
 
+-- a place and a serial for a beginning, or the verdict where there are none
+pub record Found : Type 0 where
+  pub verdict : Verdict
+  pub place : ℕ
+  pub serial : ℕ
+
 -- where there are none: "zero or nothing for all else"
 abbrev pub unfound : ℕ → Found
 unfound n = record { verdict = refusal n 0; place = 0; serial = 0 }
@@ -78,6 +87,22 @@ unfoldable pub found : Exchanges → ℕ → Found
 found x c =
     let v = in_order (begin_tests x c) good in
     record { verdict = v; place = cond (is_good v) (lowest_of x c) 0; serial = cond (is_good v) (serial_of x c) 0 }
+
+-- the same of an answer: the place and the serial, or the refusal
+abbrev pub found_as : Result (ℕ × ℕ) Refused → Found
+found_as (Ok at) = record { verdict = good; place = at.0; serial = at.1 }
+found_as (Err e) = record { verdict = refusal (number_of e.refusal) e.place; place = 0; serial = 0 }
+
+-- what a beginning is refused by, and a reply
+abbrev pub no_opening : Unfound → Refused
+no_opening Broken = refused_at State 0
+no_opening Outside = refused_at OfCentre 0
+no_opening Nothing = refused_at Full 0
+
+abbrev pub no_fitting : Unfound → Refused
+no_fitting Broken = refused_at State 0
+no_fitting Outside = refused_at Stray 0
+no_fitting Nothing = refused_at Stray 0
 
 -- the table with other places
 abbrev pub placed : Exchanges → List Place → Exchanges
@@ -111,10 +136,6 @@ stepped x k w =
 abbrev pub untold : Exchanges → Verdict → Replied
 untold x v = record { verdict = v; place = 0; outcome = NOTHING; state = x }
 
--- with the number of a refusal, 0 for none: the step of a place, or nothing told
-abbrev pub stepped_by : Exchanges → ℕ → ℕ → Reply → Replied
-stepped_by x n k w = cond (is_good (refusal n 0)) (stepped x k w) (untold x (refusal n 0))
-
 -- "A reply is given as its serial and one of confirm, answer, deny, bad answer", and with its source address a: the place that it fits takes its step
 abbrev pub answered_by : Exchanges → ℕ → ℕ → Reply → Replied
 answered_by x c s w =
@@ -124,20 +145,22 @@ answered_by x c s w =
 unfoldable pub answered : Exchanges → List ℕ → ℕ → Reply → Replied
 answered x a s w = answered_by x (centre_of x a) s w
 
--- a reply before its step: the number of its refusal and its place
-abbrev pub reach_of : Replied → Reached
-reach_of y = record { number = y.verdict.number; place = y.place }
-
-abbrev pub unreached : ℕ → Reached
-unreached n = record { number = n; place = 0 }
-
 -- a tick that was refused
 abbrev pub unticked : Exchanges → Verdict → Ticked
 unticked x v = record { verdict = v; reports = replicate 16 nothing; state = x }
+
+-- what a tick makes of the places and tells of them; no places that break the rules are ticked
+abbrev pub ticked_by : Exchanges → Verdict → Option Swept → Ticked
+ticked_by x v None = unticked x v
+ticked_by x v (Some all) = record { verdict = v; reports = all.reports; state = placed x all.places }
 
 -- "The tick answers all sixteen places.", "a tick serves both"
 unfoldable pub ticking : Exchanges → Ticked
 ticking x =
     let v = in_order ((legal x or_else STATE) ∷ []) good in
-    let all = swept x.timeout x.resends x.places in
-    cond (is_good v) (record { verdict = v; reports = all.reports; state = placed x all.places }) (unticked x v)
+    cond (is_good v) (ticked_by x v (swept x.timeout x.resends x.places)) (unticked x v)
+
+-- the same of an answer: what was swept, or the refusal
+abbrev pub swept_as : Exchanges → Result Swept Refused → Ticked
+swept_as x (Ok all) = ticked_by x good (Some all)
+swept_as x (Err e) = unticked x (refusal (number_of e.refusal) e.place)

@@ -1,10 +1,11 @@
 -- `exchange::fresh` meets its contract by its one test, which decides on verdict and table. Assumes nothing.
-use Rattle.exchange.proofs.Calls.{making}
+use native.Mathlib.Omega.{arith}
+use Rattle.exchange.proofs.Calls.{fresh-refused, fresh-good}
 use Rattle.exchange.proofs.Exchanges.fresh.Goals as goal
-use Rattle.exchange.proofs.Exchanges.fresh.Goals.{else-settled, then-settled}
 
-pub returns-then-settled-2 : goal.returns-then-settled-2
-returns-then-settled-2 c = elim c.if-settled.branch [ then-settled w ↦ search making depth 6 | else-settled w ↦ search making depth 6 ]
+pub returns-then-settled : goal.returns-then-settled
+returns-then-settled c = fresh-good _ _ _ _ _ c.is_settled-settled.ensures _ c.ensure.ensures _ c.into.ensures _ c.if-settled.true c.blank.ensures
 
-pub returns-else-settled-2 : goal.returns-else-settled-2
-returns-else-settled-2 c = elim c.if-settled.branch [ then-settled w ↦ search making depth 6 | else-settled w ↦ search making depth 6 ]
+pub returns-else-settled : goal.returns-else-settled
+returns-else-settled c =
+    fresh-refused _ _ _ _ _ c.is_settled-settled.ensures _ c.ensure.ensures _ c.into.ensures _ c.if-settled.false _ _ c.blank-else-settled.ensures (omega arith) (omega arith)
