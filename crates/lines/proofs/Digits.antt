@@ -8,6 +8,8 @@ use borrow.Author.Tests.{lt-ltb, le-ltb, ltb-true, ltb-false}
 use lib.Dec.{ltb}
 use native.Mathlib.Nat.{pow-suc}
 use lib.ListN.{length, get_or, length-append}
+use Rattle.std.specs.Fmt.{decimal as printed}
+use Rattle.std.proofs.lemmas.Fmt.{AppendsLastDigit, decimal_from_appends, length-decimal-le_succ}
 use Rattle.lines.specs.Decimal.{last_digit, decimal_in, decimal, read_on, number_in}
 
 -- enough bounds the same
@@ -83,3 +85,15 @@ no-zero-first n h = by_digits (λ m t. 1 ≤ m → 48 < get_or t 0 0) (λ m l i.
     more : (m : ℕ) (t : List ℕ) → 10 ≤ m → (1 ≤ m / 10 → 48 < get_or t 0 0) → 1 ≤ m → 48 < get_or (t ++ last_digit m) 0 0
     more m [] l f i = let g : 48 < 0 = f (omega arith) in absurd (omega arith)
     more m (d ∷ t) l f i = f (omega arith)
+
+-- and they are those that std prints
+appends : AppendsLastDigit decimal_in
+unfolding decimal_in
+appends =
+    record { one = λ k n h. simp (lt-ltb n 10 h) (ap (λ (x : ℕ). (48 + x) ∷ []) (omega arith)); more = λ k n h. simp (le-ltb n 10 h) }
+
+pub as_printed : (n : ℕ) → n < 2 ^ 64 → printed n ≡ decimal n
+unfolding decimal
+as_printed n h =
+    sym (decimal_from_appends decimal_in appends (suc n) n h (omega (arith, length-decimal-le_succ n h)))
+    ∙ bounds-alike (suc n) n n (omega arith) (omega arith)

@@ -5,8 +5,8 @@ use Rattle.kinds.specs.Table.{rows}
 use Rattle.naming.specs.Names.{ascii, letters}
 use Rattle.packet.specs.Frames.{judged_packet}
 use Rattle.packet.specs.Headers.{header_of}
-use Rattle.reading.specs.declared.Event.{Event}
-use Rattle.reading.specs.declared.Event.TheVariants.{More, Noise, Length, End, Sum, Packet, Refused}
+use Rattle.reading.specs.Events.{Event}
+use Rattle.reading.specs.Events.Event.{More, Noise, Length, End, Sum, Packet, Refused}
 use Rattle.reading.specs.Values.{NOISE, PACKET}
 use Rattle.verdict.specs.Refusals.{LENGTH, END, SUM}
 use Rattle.lines.specs.Decimal.{decimal}

@@ -1,4 +1,4 @@
 pub mod Decimal
-pub mod Added
 pub mod Events
 pub mod Tables
+pub mod Texts

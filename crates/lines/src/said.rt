@@ -1,325 +1,351 @@
-// What is said of a device table, put into a lent row piece by piece.
-ghost use Rattle.std.specs.Prelude.{◌+◌, ◌≤◌, ◌<◌, ◌≡◌, length, take};
-ghost use Rattle.devices.specs.Sections.{end_of, by_limit, section_tests};
+//! What is said of a device table.
+ghost use Rattle.std.specs.Prelude.{◌≡◌, ◌≤◌, ◌<◌, ◌++◌, cond, [], eqb, length, take};
+ghost use Rattle.naming.specs.Names.{ascii};
+ghost use Rattle.devices.specs.Sections.{count_at, end_of, by_limit, section_tests};
 ghost use Rattle.devices.specs.Tables.{of_systems, of_parts, earlier_parts, parts_from};
-ghost use Rattle.verdict.specs.Orders.{in_order, good, is_good};
-ghost use Rattle.lines.specs.Added.{Added};
-ghost use Rattle.lines.specs.Tables.{led, counted, good_said, earlier_said, of_said, count_cut_said, many_said, cut_said, section_said, sections_said, of_entry, place_said};
-ghost use Rattle.lines.specs.Tables.{own_number, why_said, newline_said, tail_said, what_said, refused_said, all_said, file_name, unjudged_said};
+ghost use Rattle.verdict.specs.Orders.{in_order, good, is_good, refusal};
+ghost use Rattle.verdict.specs.Refusals.{number_of};
+ghost use Rattle.lines.specs.Tables.{counted, good_said, earlier_said, section_said, sections_said, led, own_number, newline_said, refused_said, file_name, unjudged_said};
+ghost use Rattle.lines.specs.Texts.{noun_said, entry_said, fault_said};
 
 use crate::Why;
-use crate::number::{put_byte, put_name, put_number, put_text};
+use crate::row::{Line, Text};
 use devices::{PARTS, SYSTEMS, Section};
-use verdict::Verdict;
+use verdict::{Refusal, Refused};
 
-// A text, and a number behind it.
-fn put_led(row: &mut [u8], at: usize, text: &[u8], n: usize) -> usize
-    requires { at + length text.now + 20 ≤ length row.old }
-    ensures added { Added row.old at (led text.now n) row.new result }
-    ensures upper_bound { result ≤ at + length text.now + 20 }
-{
-    let behind = put_text(row, at, text);
-    put_number(row, behind, n)
+/// The most bytes that a path has.
+const PATH_MOST: usize = 4095;
+
+/// What is counted.
+#[derive(Clone, Copy, Debug, PartialEq, Eq, Hash)]
+pub(crate) enum Noun {
+    System,
+    Part,
+    Byte,
 }
 
-// So many of a thing, behind a text.
-fn put_counted(row: &mut [u8], at: usize, text: &[u8], n: usize, noun: &[u8]) -> usize
-    requires text_len_bound { length text.now ≤ 2 }
-    requires noun_len_bound { length noun.now ≤ 6 }
-    requires at_in_bounds { at + 30 ≤ length row.old }
-    ensures added { Added row.old at (counted text.now n noun.now) row.new result }
-    ensures upper_bound { result ≤ at + 30 }
-{
-    let mut behind = put_led(row, at, text, n);
-    behind = put_byte(row, behind, 32);
-    behind = put_text(row, behind, noun);
-    if n == 1 {
-        return behind;
+/// So many of a thing: 1 system, 4 systems.
+#[derive(Clone, Copy, Debug, PartialEq, Eq, Hash)]
+struct Counted {
+    count: usize,
+    noun: Noun,
+}
+
+/// What a good table holds.
+#[derive(Clone, Copy, Debug, PartialEq, Eq, Hash)]
+pub(crate) struct Good {
+    pub systems: usize,
+    pub parts: usize,
+    pub bytes: usize,
+}
+
+/// An entry that is refused: its place among all entries, and its own number.
+#[derive(Clone, Copy, Debug, PartialEq, Eq, Hash)]
+pub(crate) struct Entry {
+    place: usize,
+    noun: Noun,
+    number: usize,
+}
+
+/// What is wrong with a refused table.
+#[derive(Clone, Copy, Debug, PartialEq, Eq, Hash)]
+pub(crate) enum Fault {
+    CountCut {
+        noun: Noun,
+        left: usize,
+    },
+    Many {
+        noun: Noun,
+        count: usize,
+        limit: usize,
+    },
+    Cut {
+        noun: Noun,
+        whole: usize,
+        count: usize,
+    },
+    Order(Entry),
+    Orphan(Entry),
+    Tail {
+        rest: usize,
+        last: u8,
+    },
+}
+
+/// A file's name, of at most 4,095 bytes, and what parts it from the rest of the line.
+#[derive(Clone, Copy)]
+pub(crate) struct FileName<'a>(pub &'a [u8]);
+
+impl Noun {
+    fn name(self) -> &'static str
+        ensures value { result.now ≡ noun_said self }
+        ensures short { length result.now ≤ 6 }
+    {
+        match self {
+            Noun::System => "system",
+            Noun::Part => "part",
+            Noun::Byte => "byte",
+        }
     }
-    put_byte(row, behind, 115)
 }
 
-fn put_good(row: &mut [u8], at: usize, systems: usize, parts: usize, bytes: usize) -> usize
-    requires { at + 90 ≤ length row.old }
-    ensures added { Added row.old at (good_said systems parts bytes) row.new result }
-    ensures upper_bound { result ≤ at + 90 }
+impl<const N: usize> Text<N> for Noun {
+    ghost text = { noun_said };
+
+    ghost most = { λ _. 6 };
+
+    fn put(self, line: &mut Line<N>) {
+        self.name().put(line);
+    }
+}
+
+impl<const N: usize> Text<N> for Counted {
+    ghost text = { λ c. counted [] c.count (noun_said c.noun) };
+
+    ghost most = { λ _. 28 };
+
+    #[tactic(auto, unfolding(crate::specs::Tables::counted, crate::specs::Tables::led))]
+    fn put(self, line: &mut Line<N>) {
+        (self.count, " ", self.noun, plural(self.count)).put(line);
+    }
+}
+
+/// What stands behind a noun.
+fn plural(count: usize) -> &'static str
+    ensures value { result.now ≡ cond (eqb count 1) [] (ascii "s") }
+    ensures short { length result.now ≤ 1 }
 {
-    let mut behind = put_counted(row, at, b" ", systems, b"system");
-    behind = put_counted(row, behind, b", ", parts, b"part");
-    put_counted(row, behind, b", ", bytes, b"byte")
+    if count == 1 { "" } else { "s" }
 }
 
-// What an earlier program says of a table that is good here: it reads fewer parts.
-fn put_earlier(row: &mut [u8], at: usize, parts: usize) -> usize
-    requires { at + 81 ≤ length row.old }
-    ensures added { Added row.old at (earlier_said (by_limit earlier_parts.limit parts)) row.new result }
-    ensures upper_bound { result ≤ at + 81 }
+impl<const N: usize> Text<N> for Good {
+    ghost text = { λ t. good_said t.systems t.parts t.bytes ++ earlier_said (by_limit earlier_parts.limit t.parts) };
+
+    ghost most = { λ _. 180 };
+
+    #[tactic(auto, unfolding(crate::specs::Tables::good_said, crate::specs::Tables::counted, crate::specs::Tables::led))]
+    fn put(self, line: &mut Line<N>) {
+        let systems = Counted {
+            count: self.systems,
+            noun: Noun::System,
+        };
+        let parts = Counted {
+            count: self.parts,
+            noun: Noun::Part,
+        };
+        let bytes = Counted {
+            count: self.bytes,
+            noun: Noun::Byte,
+        };
+        let held = (" ", systems, ", ", parts, ", ", bytes);
+        (held, earlier(self.parts)).put(line);
+    }
+}
+
+/// What an earlier program, which reads fewer parts, says of a good table of so many.
+#[tactic(auto, using(crate::proofs::Saying::read_by_earlier, crate::proofs::Saying::refused_by_earlier))]
+fn earlier(parts: usize) -> &'static str
+    ensures value { result.now ≡ earlier_said (by_limit earlier_parts.limit parts) }
+    ensures short { length result.now ≤ 81 }
 {
     if parts <= devices::EARLIER_MOST {
-        return at;
+        ""
+    } else {
+        "; releases before 1.8 refuse it as MANY: replace it before going back to one"
     }
-    let mut behind = put_text(row, at, b"; releases before 1.8 refuse it as ");
-    behind = put_name(row, behind, verdict::MANY);
-    put_text(row, behind, b": replace it before going back to one")
 }
 
-// How much of what is due is there.
-fn put_of(row: &mut [u8], at: usize, there: usize, due: usize) -> usize
-    requires { at + 44 ≤ length row.old }
-    ensures added { Added row.old at (of_said there due) row.new result }
-    ensures upper_bound { result ≤ at + 44 }
+impl<const N: usize> Text<N> for Entry {
+    ghost text = { entry_said };
+
+    ghost most = { λ _. 50 };
+
+    #[tactic(auto, unfolding(crate::specs::Tables::led))]
+    fn put(self, line: &mut Line<N>) {
+        ((" ", self.place, ": "), (self.noun, " ", self.number)).put(line);
+    }
+}
+
+impl<const N: usize> Text<N> for Fault {
+    ghost text = { fault_said };
+
+    ghost most = { λ _. 90 };
+
+    #[tactic(auto, unfolding(crate::specs::Tables::led, crate::specs::Tables::counted, crate::specs::Tables::of_said, crate::specs::Tables::count_cut_said, crate::specs::Tables::many_said, crate::specs::Tables::cut_said, crate::specs::Tables::why_said, crate::specs::Tables::tail_said, crate::specs::Decimal::decimal, crate::specs::Decimal::decimal_in))]
+    fn put(self, line: &mut Line<N>) {
+        match self {
+            Fault::CountCut { noun, left } => {
+                (": ", left, " of 2 bytes of the number of ", (noun, "s")).put(line)
+            }
+            Fault::Many { noun, count, limit } => {
+                (": ", Counted { count, noun }, ", at most ", limit).put(line)
+            }
+            Fault::Cut { noun, whole, count } => {
+                (": ", whole, " of ", count, (" ", noun), "s are whole").put(line)
+            }
+            Fault::Order(entry) => (entry, " is not above the one before").put(line),
+            Fault::Orphan(entry) => (entry, " is of a system that is not listed").put(line),
+            Fault::Tail { rest, last } => {
+                let rest_said = Counted {
+                    count: rest,
+                    noun: Noun::Byte,
+                };
+                (": ", rest_said, " after the table", newline(rest, last)).put(line)
+            }
+        }
+    }
+}
+
+/// Whether the last byte behind a table is a newline.
+#[tactic(auto, unfolding(crate::specs::Tables::newline_said))]
+fn newline(rest: usize, last: u8) -> &'static str
+    ensures value { result.now ≡ newline_said rest last }
+    ensures short { length result.now ≤ 22 }
 {
-    let behind = put_number(row, at, there);
-    put_led(row, behind, b" of ", due)
+    match (last, rest) {
+        (b'\n', 1) => ", a newline",
+        (b'\n', _) => ", a newline at the end",
+        _ => "",
+    }
 }
 
-fn put_count_cut(row: &mut [u8], at: usize, noun: &[u8], left: usize) -> usize
-    requires noun_len_bound { length noun.now ≤ 6 }
-    requires at_in_bounds { at + 80 ≤ length row.old }
-    ensures added { Added row.old at (count_cut_said noun.now left) row.new result }
-    ensures upper_bound { result ≤ at + 80 }
+/// What is wrong with a table for which this is its judge's refusal.
+#[tactic(auto, using(crate::proofs::Saying::order_said, crate::proofs::Saying::orphan_said, crate::proofs::Saying::rest_said, crate::proofs::Saying::section_refused))]
+pub(crate) fn fault_of(table: &[u8], refused: Refused) -> Fault
+    ensures { fault_said result ≡ refused_said of_systems of_parts table.now (refusal (number_of refused.refusal) refused.place) }
 {
-    let mut behind = put_of(row, at, left, 2);
-    behind = put_text(row, behind, b" bytes of the number of ");
-    behind = put_text(row, behind, noun);
-    put_byte(row, behind, 115)
+    match refused.refusal {
+        Refusal::Order => Fault::Order(entry_at(table, refused.place)),
+        Refusal::Orphan => Fault::Orphan(entry_at(table, refused.place)),
+        Refusal::Tail => Fault::Tail {
+            rest: table.len().saturating_sub(table_end(table)),
+            last: octets::byte_at(table, table.len().saturating_sub(1)),
+        },
+        _ => sections_fault(table),
+    }
 }
 
-fn put_many(row: &mut [u8], at: usize, noun: &[u8], n: usize, limit: usize) -> usize
-    requires noun_len_bound { length noun.now ≤ 6 }
-    requires at_in_bounds { at + 80 ≤ length row.old }
-    ensures added { Added row.old at (many_said noun.now n limit) row.new result }
-    ensures upper_bound { result ≤ at + 80 }
+/// The entry at a place: the parts are numbered on after the systems.
+#[tactic(auto, using(crate::proofs::Saying::systems_told), unfolding(crate::specs::Tables::led, crate::specs::Tables::own_number))]
+fn entry_at(table: &[u8], place: usize) -> Entry
+    ensures { entry_said result ≡ led (ascii " ") place ++ ascii ": " ++ own_number (count_at table.now 0) place }
 {
-    let behind = put_counted(row, at, b"", n, noun);
-    put_led(row, behind, b", at most ", limit)
+    let systems = usize::from(octets::two_at(table, 0));
+    if place < systems {
+        return Entry {
+            place,
+            noun: Noun::System,
+            number: place,
+        };
+    }
+    Entry {
+        place,
+        noun: Noun::Part,
+        number: place - systems,
+    }
 }
 
-fn put_cut(row: &mut [u8], at: usize, noun: &[u8], whole: usize, n: usize) -> usize
-    requires noun_len_bound { length noun.now ≤ 6 }
-    requires at_in_bounds { at + 80 ≤ length row.old }
-    ensures added { Added row.old at (cut_said noun.now whole n) row.new result }
-    ensures upper_bound { result ≤ at + 80 }
+/// The first section of which a test fails: the systems' stands before the parts'.
+#[tactic(auto, using(crate::proofs::Saying::parts_fail, crate::proofs::Saying::systems_fail))]
+fn sections_fault(table: &[u8]) -> Fault
+    ensures { fault_said result ≡ ascii ": " ++ sections_said of_systems of_parts table.now }
 {
-    let mut behind = put_of(row, at, whole, n);
-    behind = put_byte(row, behind, 32);
-    behind = put_text(row, behind, noun);
-    put_text(row, behind, b"s are whole")
+    if systems_hold(table) {
+        return section_fault(Noun::Part, PARTS, table, parts_from(table));
+    }
+    section_fault(Noun::System, SYSTEMS, table, 0)
 }
 
-// What the first test that fails of a section is about.
-fn put_section(
-    row: &mut [u8],
-    at: usize,
-    noun: &[u8],
-    z: Section,
-    table: &[u8],
-    from: usize,
-) -> usize
-    requires noun_len_bound { length noun.now ≤ 6 }
-    requires at_in_bounds { at + 80 ≤ length row.old }
-    requires z_nonzero { 0 < z.entry }
+/// What the first test that fails of a section is about.
+#[tactic(auto, using(crate::proofs::Saying::count_cut, crate::proofs::Saying::too_many, crate::proofs::Saying::cut_short))]
+fn section_fault(noun: Noun, section: Section, table: &[u8], from: usize) -> Fault
+    requires entry_nonzero { 0 < section.entry }
     requires from_bound { from ≤ 1000000 }
-    ensures added { Added row.old at (section_said noun.now z table.now from) row.new result }
-    ensures upper_bound { result ≤ at + 80 }
+    ensures { fault_said result ≡ ascii ": " ++ section_said (noun_said noun) section table.now from }
 {
     if table.len() < from + 2 {
-        return put_count_cut(row, at, noun, rows::less(table.len(), from));
+        let left = table.len().saturating_sub(from);
+        return Fault::CountCut { noun, left };
     }
-    let count = octets::two_at(table, from) as usize;
-    if z.limit < count {
-        return put_many(row, at, noun, count, z.limit);
+    let count = usize::from(octets::two_at(table, from));
+    if section.limit < count {
+        return Fault::Many {
+            noun,
+            count,
+            limit: section.limit,
+        };
     }
-    put_cut(row, at, noun, (table.len() - (from + 2)) / z.entry, count)
+    Fault::Cut {
+        noun,
+        whole: (table.len() - (from + 2)) / section.entry,
+        count,
+    }
 }
 
-// Whether the tests of the systems' section hold.
+/// Whether the tests of the systems' section hold.
+#[tactic(auto, using(crate::proofs::Saying::no_count, crate::proofs::Saying::past_limit, crate::proofs::Saying::to_the_end))]
 fn systems_hold(table: &[u8]) -> bool
     ensures { result ≡ is_good (in_order (section_tests of_systems table.now 0) good) }
 {
-    if table.len() < 2 {
-        return false;
-    }
-    let count = octets::two_at(table, 0) as usize;
-    if SYSTEMS.limit < count {
-        return false;
-    }
-    2 + count * SYSTEMS.entry <= table.len()
+    let count = usize::from(octets::two_at(table, 0));
+    2 <= table.len() && count <= SYSTEMS.limit && 2 + count * SYSTEMS.entry <= table.len()
 }
 
-// Where the parts begin, by the number of systems that is told.
+/// Where the parts begin, by the number of systems that is told.
+#[tactic(auto, using(crate::proofs::Saying::parts_read))]
 fn parts_from(table: &[u8]) -> usize
     ensures value { result ≡ parts_from of_systems table.now }
     ensures upper_bound { result ≤ 131072 }
 {
-    2 + (octets::two_at(table, 0) as usize) * SYSTEMS.entry
+    2 + usize::from(octets::two_at(table, 0)) * SYSTEMS.entry
 }
 
-// Where the table ends, by the numbers that are told.
+/// Where the table ends, by the numbers that are told.
+#[tactic(auto, using(crate::proofs::Saying::end_read))]
 fn table_end(table: &[u8]) -> usize
     ensures { result ≡ end_of of_parts table.now (parts_from of_systems table.now) }
 {
     let from = parts_from(table);
-    from + 2 + (octets::two_at(table, from) as usize) * PARTS.entry
+    from + 2 + usize::from(octets::two_at(table, from)) * PARTS.entry
 }
 
-// The section of which a test fails.
-fn put_sections(row: &mut [u8], at: usize, table: &[u8]) -> usize
-    requires { at + 80 ≤ length row.old }
-    ensures added { Added row.old at (sections_said of_systems of_parts table.now) row.new result }
-    ensures upper_bound { result ≤ at + 80 }
-{
-    if systems_hold(table) {
-        return put_section(row, at, b"part", PARTS, table, parts_from(table));
+impl<const N: usize> Text<N> for FileName<'_> {
+    ghost text = { λ name. file_name name.0.now };
+
+    ghost most = { λ _. 4097 };
+
+    #[tactic(auto, unfolding(crate::specs::Tables::file_name))]
+    fn put(self, line: &mut Line<N>) {
+        (front(self.0, PATH_MOST), ": ").put(line);
     }
-    put_section(row, at, b"system", SYSTEMS, table, 0)
 }
 
-// Whether a refusal is of an entry.
-fn is_of_entry(number: u8) -> bool
-    ensures { result ≡ of_entry number }
+/// At most so many bytes from the front.
+#[tactic(auto, using(std::proofs::lemmas::List::take_all))]
+fn front(bytes: &[u8], most: usize) -> &[u8]
+    ensures value { result.now ≡ take most bytes.now }
+    ensures short { length result.now ≤ most }
 {
-    if number == verdict::ORDER {
-        return true;
+    if bytes.len() <= most {
+        bytes
+    } else {
+        &bytes[..most]
     }
-    number == verdict::ORPHAN
 }
 
-// The place, where it is an entry's.
-fn put_place(row: &mut [u8], at: usize, v: Verdict) -> usize
-    requires { at + 21 ≤ length row.old }
-    ensures added { Added row.old at (place_said v) row.new result }
-    ensures upper_bound { result ≤ at + 21 }
-{
-    if is_of_entry(v.number) {
-        return put_led(row, at, b" ", v.place);
-    }
-    at
-}
+impl<const N: usize> Text<N> for Why {
+    ghost text = { unjudged_said };
 
-// An entry by its own number.
-fn put_own(row: &mut [u8], at: usize, systems: usize, place: usize) -> usize
-    requires { at + 27 ≤ length row.old }
-    ensures added { Added row.old at (own_number systems place) row.new result }
-    ensures upper_bound { result ≤ at + 27 }
-{
-    if place < systems {
-        return put_led(row, at, b"system ", place);
-    }
-    put_led(row, at, b"part ", place - systems)
-}
+    ghost most = { λ _. 23 };
 
-fn put_why(row: &mut [u8], at: usize, number: u8) -> usize
-    requires { at + 40 ≤ length row.old }
-    ensures added { Added row.old at (why_said number) row.new result }
-    ensures upper_bound { result ≤ at + 40 }
-{
-    if number == verdict::ORDER {
-        return put_text(row, at, b" is not above the one before");
-    }
-    put_text(row, at, b" is of a system that is not listed")
-}
-
-fn put_newline(row: &mut [u8], at: usize, rest: usize, last: u8) -> usize
-    requires { at + 22 ≤ length row.old }
-    ensures added { Added row.old at (newline_said rest last) row.new result }
-    ensures upper_bound { result ≤ at + 22 }
-{
-    if last != 10 {
-        return at;
-    }
-    if rest == 1 {
-        return put_text(row, at, b", a newline");
-    }
-    put_text(row, at, b", a newline at the end")
-}
-
-fn put_tail(row: &mut [u8], at: usize, rest: usize, last: u8) -> usize
-    requires { at + 80 ≤ length row.old }
-    ensures added { Added row.old at (tail_said rest last) row.new result }
-    ensures upper_bound { result ≤ at + 80 }
-{
-    let mut behind = put_counted(row, at, b"", rest, b"byte");
-    behind = put_text(row, behind, b" after the table");
-    put_newline(row, behind, rest, last)
-}
-
-// What is refused, and where.
-fn put_what(row: &mut [u8], at: usize, table: &[u8], v: Verdict) -> usize
-    requires { at + 80 ≤ length row.old }
-    ensures added { Added row.old at (what_said of_systems of_parts table.now v) row.new result }
-    ensures upper_bound { result ≤ at + 80 }
-{
-    if is_of_entry(v.number) {
-        let behind = put_own(row, at, octets::two_at(table, 0) as usize, v.place);
-        return put_why(row, behind, v.number);
-    }
-    if v.number == verdict::TAIL {
-        let rest = rows::less(table.len(), table_end(table));
-        return put_tail(
-            row,
-            at,
-            rest,
-            octets::byte_at(table, rows::less(table.len(), 1)),
-        );
-    }
-    put_sections(row, at, table)
-}
-
-fn put_refused(row: &mut [u8], at: usize, table: &[u8], v: Verdict) -> usize
-    requires { at + 103 ≤ length row.old }
-    ensures added { Added row.old at (refused_said of_systems of_parts table.now v) row.new result }
-    ensures upper_bound { result ≤ at + 103 }
-{
-    let mut behind = put_place(row, at, v);
-    behind = put_text(row, behind, b": ");
-    put_what(row, behind, table, v)
-}
-
-// What is said of a table.
-pub fn put_said(row: &mut [u8], at: usize, table: &[u8]) -> usize
-    requires { at + 180 ≤ length row.old }
-    ensures added { Added row.old at (all_said of_systems of_parts earlier_parts table.now) row.new result }
-    ensures upper_bound { result ≤ at + 180 }
-{
-    let judged = devices::judge(table);
-    let v = judged.verdict;
-    let behind = put_name(row, at, v.number);
-    if v.is_good() {
-        let held = put_good(row, behind, judged.systems, judged.parts, table.len());
-        return put_earlier(row, held, judged.parts);
-    }
-    put_refused(row, behind, table, v)
-}
-
-// A file's name, of at most 4,095 bytes, and what parts it from the rest of the line.
-pub fn put_file_name(row: &mut [u8], name: &[u8]) -> usize
-    requires { 4097 ≤ length row.old }
-    ensures added { Added row.old 0 (file_name name.now) row.new result }
-    ensures upper_bound { result ≤ 4097 }
-{
-    let behind = put_front(row, name);
-    put_text(row, behind, b": ")
-}
-
-fn put_front(row: &mut [u8], name: &[u8]) -> usize
-    requires { 4095 ≤ length row.old }
-    ensures added { Added row.old 0 (take 4095 name.now) row.new result }
-    ensures upper_bound { result ≤ 4095 }
-{
-    put_text(row, 0, rows::span(name, 0, 4095))
-}
-
-pub fn put_unjudged(row: &mut [u8], at: usize, why: Why) -> usize
-    requires { at + 23 ≤ length row.old }
-    ensures added { Added row.old at (unjudged_said why) row.new result }
-    ensures upper_bound { result ≤ at + 23 }
-{
-    match why {
-        Why::Absent => put_text(row, at, b"no such file"),
-        Why::Folder => put_text(row, at, b"is a directory"),
-        Why::Barred => put_text(row, at, b"may not be read"),
-        Why::Broken => put_text(row, at, b"cannot be read"),
-        Why::Longer => put_text(row, at, b"longer than 65536 bytes"),
+    #[tactic(auto, unfolding(crate::specs::Tables::unjudged_said))]
+    fn put(self, line: &mut Line<N>) {
+        match self {
+            Why::Absent => "no such file".put(line),
+            Why::Folder => "is a directory".put(line),
+            Why::Barred => "may not be read".put(line),
+            Why::Broken => "cannot be read".put(line),
+            Why::Longer => "longer than 65536 bytes".put(line),
+        }
     }
 }

@@ -1,6 +1,0 @@
--- `lines::number::number_and` meets its contract: a number, then a byte. Assumes nothing.
-use Rattle.lines.proofs.Adding.{added_then}
-use Rattle.lines.proofs.number.number_and.Goals as goal
-
-pub returns-clause-added : goal.returns-clause-added
-returns-clause-added c = search added_then
