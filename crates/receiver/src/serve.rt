@@ -10,6 +10,7 @@ use crate::line::Line;
 use verdict::{Refusal, Refused, ensure};
 
 /// The call: refused by its state or its buffer, else what is found first decides.
+// Its state comes in three parts, as C has them: a struct would be put together here and taken apart below.
 pub fn serve<const MAX: usize>(
     hold: &mut [u8],
     held: usize,
