@@ -52,6 +52,7 @@ impl Listing {
     /// Reads to the end of the input; a read that fails is told from the end, so that no beginning of a stream is listed for the whole.
     fn list<R: Read>(&mut self, rt: &impl Print, input: &mut R) -> Result<(), Failure> {
         let mut buffer = [0u8; 4096];
+        // A loop has to be seen to end, and only the input says how many reads there are: the count is never reached.
         for _ in 0..u64::MAX {
             match input.read(&mut buffer).map_err(Failure::Input)? {
                 0 => return print_line(rt, &lines::last_line(self.held, self.skipped)),
@@ -64,6 +65,7 @@ impl Listing {
     /// Offers a piece, again from what was not taken, until more is asked for.
     fn list_piece(&mut self, rt: &impl Print, piece: &[u8]) -> Result<(), Failure> {
         let mut left = piece;
+        // The same: only the receiver says when. No iterator of events: each packet lies in the buffer that the next call overwrites.
         for _ in 0..u64::MAX {
             let served = receiver::receive_lent(
                 &mut self.hold,
