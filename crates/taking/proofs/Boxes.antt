@@ -18,8 +18,7 @@ use Rattle.kinds.specs.Table.{rows}
 use Rattle.packet.specs.Frames.{judged_packet}
 use Rattle.packet.specs.Headers.{header_of}
 use Rattle.place.specs.declared.Reply.{Reply}
-use Rattle.taking.specs.declared.Role.{Role}
-use Rattle.taking.specs.declared.Role.TheVariants.{Other, Is}
+use Rattle.taking.specs.Roles.{Role, Other, Is}
 use Rattle.taking.specs.Boxes.{BoxCall, own, packet, box_line, box_after, box_log, calls_tick, box_answer, box_spared}
 use Rattle.taking.specs.Takes.{role_of, taken_as, taken}
 

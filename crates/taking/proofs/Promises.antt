@@ -19,8 +19,7 @@ use Rattle.unit.proofs.Under.{under-good}
 use Rattle.verdict.specs.declared.Verdict.{Verdict}
 use Rattle.verdict.specs.Orders.{Test, in_order, good, is_good, refusing}
 use Rattle.verdict.proofs.Order.{all-passed, good-held, held-good, goes_on}
-use Rattle.taking.specs.declared.Role.{Role}
-use Rattle.taking.specs.declared.Role.TheVariants.{Other, Is}
+use Rattle.taking.specs.Roles.{Role, Other, Is}
 use Rattle.taking.specs.Takes.{role_in, role_of, taken_as, taken}
 
 -- whether a packet was refused at VERSION or later: its frame is good, and what stands in it is not

@@ -1,10 +1,10 @@
 -- One law for each answer of the call that takes a packet. Assumes nothing.
 use Prim.Native.Nat.{ℕ}
-use mathlib.Core.Bool.{Bool, true, false, not}
+use mathlib.Core.Bool.{false, false≢true}
 use mathlib.Core.List.{List}
-use mathlib.Core.Path.{◌≡◌, sym, ap, ◌∙◌}
-use borrow.Author.Tests.{eq-eqb, ne_eqb}
+use mathlib.Core.Path.{◌≡◌, refl, sym, ap, ◌∙◌}
 use lib.ListN.{take, drop}
+use Rattle.std.specs.Prelude.{Option, Result, Ok, Err, IsErr}
 use Rattle.exchange.specs.declared.Exchanges.{Exchanges}
 use Rattle.exchange.specs.declared.Replied.{Replied}
 use Rattle.exchange.specs.Table.{untold, answered}
@@ -12,85 +12,67 @@ use Rattle.frame.specs.Frame.{frame_tests}
 use Rattle.kinds.specs.declared.Row.{Row}
 use Rattle.octets.specs.Numbers.{low_first}
 use Rattle.octets.specs.Parts.{one_by_one}
-use Rattle.octets.proofs.Flags.{on, off}
-use Rattle.packet.specs.Frames.{command_of, judged_content}
+use Rattle.packet.specs.Frames.{command_of, judged_content, judged_packet}
 use Rattle.packet.specs.Headers.{header_of}
 use Rattle.packet.proofs.Contents.{frame-decides, content-decides}
 use Rattle.place.specs.declared.Reply.{Reply}
-use Rattle.place.specs.declared.Reply.TheVariants.{Confirm, Answer, Deny, BadAnswer}
+use Rattle.verdict.specs.declared.Refused.{Refused}
 use Rattle.verdict.specs.declared.Verdict.{Verdict}
-use Rattle.verdict.specs.Orders.{in_order, good, is_good}
-use Rattle.taking.specs.declared.Heard.{Heard}
-use Rattle.taking.specs.declared.Role.{Role}
-use Rattle.taking.specs.declared.Role.TheVariants.{Other, Is}
+use Rattle.verdict.specs.Orders.{in_order, good, is_good, told}
+use Rattle.verdict.proofs.Told.{not-good}
+use Rattle.taking.specs.Roles.{Role, Other, Is, Heard, asked, verdict_asked, role_in_answer, heard_told}
 use Rattle.taking.specs.Takes.{role_in, role_of, heard_as, taken_as, taken}
 
--- what a command is, in a packet of a good frame
-module _ (c : ℕ) where
-  pub is-confirm : c ≡ 3 → Is Confirm ≡ role_in true c
-  unfolding role_in
-  is-confirm e = simp (eq-eqb c 3 e)
+-- a refusal is not good
+pub refused_bad : (e : Refused) → is_good (told {A = ℕ} (Err e)) ≡ false
+refused_bad e = not-good e.refusal e.place
 
-  pub is-answer : (c ≡ 3 → ⊥) → c ≡ 5 → Is Answer ≡ role_in true c
-  unfolding role_in
-  is-answer a e = simp (ne_eqb c 3 a, eq-eqb c 5 e)
+module _ (rs : List Row) (p : List ℕ) where
+  heard-so : (v : Verdict) (r : Role) → v ≡ judged_packet rs p → r ≡ role_of rs p → asked (record { verdict = v; role = r }) ≡ asked (heard_as rs p)
+  heard-so v r e q = λ i. asked (record { verdict = e i; role = q i })
 
-  pub is-deny : (c ≡ 3 → ⊥) → (c ≡ 5 → ⊥) → c ≡ 6 → Is Deny ≡ role_in true c
-  unfolding role_in
-  is-deny a b e = simp (ne_eqb c 3 a, ne_eqb c 5 b, eq-eqb c 6 e)
-
-  pub is_none : (c ≡ 3 → ⊥) → (c ≡ 5 → ⊥) → (c ≡ 6 → ⊥) → Other ≡ role_in true c
-  unfolding role_in
-  is_none a b d = simp (ne_eqb c 3 a, ne_eqb c 5 b, ne_eqb c 6 d)
-
-  pub is_good_lem : (g : Bool) (r : Role) → g ≡ true → r ≡ role_in true c → r ≡ role_in g c
-  is_good_lem g r e q = q ∙ ap (λ (b : Bool). role_in b c) (sym e)
-
-  pub is-bad : (g : Bool) → g ≡ false → c ≡ 5 → Is BadAnswer ≡ role_in g c
-  unfolding role_in
-  is-bad g e q = simp (e, eq-eqb c 5 q)
-
-  pub is-refused : (g : Bool) → g ≡ false → (c ≡ 5 → ⊥) → Other ≡ role_in g c
-  unfolding role_in
-  is-refused g e q = simp (e, ne_eqb c 5 q)
-
-pub ruleset roles = (is-confirm, is-answer, is-deny, is_none, is_good_lem, is-bad, is-refused)
-
--- f is the frame's verdict, g whether it is good
-module _ (rs : List Row) (p : List ℕ) (f : Verdict) (g : Bool) (framed : f ≡ in_order (frame_tests 1024 p) good) (told : g ≡ is_good f) where
-  pub frame_refused : not g ≡ true → ◌≡◌ {A = Heard} (record { verdict = f; role = Other }) (heard_as rs p)
+  -- a frame that is refused
+  pub frame_heard : (x : Result (Option Reply) Refused) → IsErr x → told x ≡ in_order (frame_tests 1024 p) good → heard_told x ≡ asked (heard_as rs p)
   unfolding role_of
-  frame_refused n =
-      let is : Other ≡ role_of rs p = simp (ap is_good (sym framed) ∙ off told n) in
-      λ i. record { verdict = frame-decides rs p f g framed told n i; role = is i }
+  frame_heard (Ok o) h e = absurd (false≢true h)
+  frame_heard (Err f) h e =
+      heard-so (told {A = ℕ} (Err f)) Other (frame-decides rs p {A = ℕ} (Err f) h e) (simp (ap is_good (sym e) ∙ not-good f.refusal f.place))
 
-  -- v is the content's verdict, h whether it is good, k the command, and r what the packet is
-  pub frame-good : (v : Verdict) (h : Bool) (k : ℕ) (r : Role) → not g ≡ false → v ≡ judged_content rs p → h ≡ is_good v → k ≡ command_of p → r ≡ role_in h k
-      → ◌≡◌ {A = Heard} (record { verdict = v; role = r }) (heard_as rs p)
+  -- and one that is not: v is what was told of its content, and h what was heard of it
+  pub content_heard : (v : Verdict) (k : ℕ) (h : Heard) → good ≡ in_order (frame_tests 1024 p) good → v ≡ judged_content rs p → k ≡ command_of p
+      → h ≡ asked (record { verdict = v; role = role_in (is_good v) k }) → h ≡ asked (heard_as rs p)
   unfolding role_of
-  frame-good v h k r n content judged command role =
-      let is : r ≡ role_of rs p =
-      role
-      ∙ ap (λ (b : Bool). role_in b k) (judged ∙ ap is_good content)
+  content_heard v k h framed content command e =
+      let r : role_in (is_good v) k ≡ role_of rs p =
+      ap (λ (w : Verdict). role_in (is_good w) k) content
       ∙ ap (role_in (is_good (judged_content rs p))) command
-      ∙ simp (ap is_good (sym framed) ∙ on told n) in
-      λ i. record { verdict = content-decides rs p f g framed told v n content i; role = is i }
+      ∙ simp (ap is_good (sym framed)) in
+      e ∙ heard-so v (role_in (is_good v) k) (content-decides rs p v framed content) r
 
-pub ruleset hearing = (frame_refused, frame-good)
+pub ruleset hearing = (frame_heard, content_heard)
 
 -- h is what was heard, a what is handed back
-module _ (rs : List Row) (x : Exchanges) (p : List ℕ) (h : Heard) (told : h ≡ heard_as rs p) (a : Replied) where
-  so : taken_as h.role x (header_of p).source (header_of p).serial h.verdict ≡ taken rs x p
-  unfolding taken
-  so = ap (λ (y : Heard). taken_as y.role x (header_of p).source (header_of p).serial y.verdict) told
+module _ (rs : List Row) (x : Exchanges) (p : List ℕ) (a : Replied) where
+  so : (r : Role) (v : Verdict) → ◌≡◌ {A = Heard} (record { verdict = v; role = r }) (asked (heard_as rs p))
+      → taken_as r x (header_of p).source (header_of p).serial v ≡ taken rs x p
+  unfolding taken taken_as
+  so r v e =
+      ap (λ (h : Heard). taken_as h.role x (header_of p).source (header_of p).serial h.verdict) e
+      ∙ by-role (role_of rs p)
+    where
+      by-role : (r : Role) → taken_as r x (header_of p).source (header_of p).serial (verdict_asked r (judged_packet rs p))
+          ≡ taken_as r x (header_of p).source (header_of p).serial (judged_packet rs p)
+      by-role Other = refl
+      by-role (Is w) = refl
 
-  pub reply-taken : (w : Reply) (l : List ℕ) (s : ℕ) → h.role ≡ Is w → l ≡ one_by_one p 12 6 → s ≡ low_first (take 2 (drop 2 p)) → a ≡ answered x l s w → a ≡ taken rs x p
+  pub reply_taken : (w : Reply) (l : List ℕ) (s : ℕ) → ◌≡◌ {A = Heard} (record { verdict = good; role = Is w }) (asked (heard_as rs p)) → l ≡ one_by_one p 12 6
+      → s ≡ low_first (take 2 (drop 2 p)) → a ≡ answered x l s w → a ≡ taken rs x p
   unfolding taken_as
-  reply-taken w l s e k q t =
-      t ∙ (λ i. answered x (k i) (q i) w) ∙ sym (ap (λ (u : Role). taken_as u x (header_of p).source (header_of p).serial h.verdict) e) ∙ so
+  reply_taken w l s e k q t = t ∙ (λ i. answered x (k i) (q i) w) ∙ so (Is w) good e
 
-  pub other-taken : h.role ≡ Other → a ≡ untold x h.verdict → a ≡ taken rs x p
+  pub other_taken : (h : Result (Option Reply) Refused) (v : Verdict) → heard_told h ≡ asked (heard_as rs p) → role_in_answer h ≡ Other → v ≡ told h → a ≡ untold x v
+      → a ≡ taken rs x p
   unfolding taken_as
-  other-taken e t = t ∙ sym (ap (λ (u : Role). taken_as u x (header_of p).source (header_of p).serial h.verdict) e) ∙ so
+  other_taken h v e other k t = t ∙ ap (untold x) k ∙ so Other (told h) ((λ i. record { verdict = told h; role = sym other i }) ∙ e)
 
-pub ruleset takes = (reply-taken, other-taken)
+pub ruleset takes = (reply_taken, other_taken)

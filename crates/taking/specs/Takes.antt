@@ -11,9 +11,7 @@ use Rattle.packet.specs.Headers.{header_of}
 use Rattle.place.specs.declared.Reply.TheVariants.{Confirm, Answer, Deny, BadAnswer}
 use Rattle.verdict.specs.declared.Verdict.{Verdict}
 use Rattle.verdict.specs.Orders.{in_order, good, is_good}
-use Rattle.taking.specs.declared.Heard.{Heard}
-use Rattle.taking.specs.declared.Role.{Role}
-use Rattle.taking.specs.declared.Role.TheVariants.{Other, Is}
+use Rattle.taking.specs.Roles.{Role, Other, Is, Heard}
 
 -- "3 confirm, .. 5 answer, 6 deny", of a packet judged good; "a bad answer (command 5, refused at VERSION or later)"
 unfoldable pub role_in : Bool → ℕ → Role

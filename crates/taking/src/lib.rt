@@ -1,102 +1,53 @@
-// What a received packet is to the exchange table, and the step that the table takes by it.
+//! What a received packet is to the exchange table, and the step that the table takes by it.
 #![tactic(auto)]
 
-ghost use Rattle.std.specs.Prelude.{◌≡◌, true};
+ghost use Rattle.std.specs.Prelude.{◌≡◌};
 ghost use Rattle.kinds.specs.Table.{rows};
-ghost use Rattle.exchange.specs.Table.{untold};
+ghost use Rattle.verdict.specs.Orders.{is_good, told};
+ghost use Rattle.taking.specs.Roles.{asked, heard_told};
 ghost use Rattle.taking.specs.Takes.{role_in, heard_as, taken};
 
 use exchange::{Address, Exchanges, Replied};
 use place::Reply;
-use verdict::Verdict;
+use verdict::{Refused, Verdict};
 
-// A reply of one of four kinds, or a packet that is none.
-#[derive(Clone, Copy)]
-pub enum Role {
-    Other,
-    Is(Reply),
-}
-
-// What the judge says of a packet, and what it is to the table.
-#[derive(Clone, Copy)]
-struct Heard {
-    verdict: Verdict,
-    role: Role,
-}
-
-// The table after a received packet; what is no reply has one way out, so that the table is copied once.
+/// The table after a received packet.
+#[tactic(auto, using(crate::proofs::Taking::takes))]
 pub fn take(table: Exchanges, p: &[u8]) -> Replied
     ensures { result ≡ taken rows table p.now }
 {
-    let heard = hear(p);
-    let role = heard.role;
-    match role {
-        Role::Is(reply) => {
+    match hear(p) {
+        Ok(Some(reply)) => {
             let source = Address {
                 bytes: octets::six_at(p, 12),
             };
             table.reply(source, octets::two_at(p, 2), reply)
         }
-        Role::Other => untold(table, heard.verdict),
+        Ok(None) => table.untold(Verdict::good()),
+        Err(refused) => table.untold(Verdict::from(refused)),
     }
 }
 
-// Frame and content are judged once each.
-fn hear(p: &[u8]) -> Heard
-    ensures { result ≡ heard_as rows p.now }
+/// What a packet is to the table: a reply of one of four kinds, none, or what it is refused for. Frame and content are judged once each.
+#[tactic(auto, using(crate::proofs::Taking::hearing))]
+fn hear(p: &[u8]) -> Result<Option<Reply>, Refused>
+    ensures { heard_told result ≡ asked (heard_as rows p.now) }
 {
-    let frame = frame::judge_frame(p);
-    if !frame.is_good() {
-        return Heard {
-            verdict: frame,
-            role: Role::Other,
-        };
-    }
-    let content = packet::judge_content(p);
-    let role = role_in(content.is_good(), octets::byte_at(p, 26));
-    Heard {
-        verdict: content,
-        role,
-    }
+    frame::judge_frame(p)?;
+    role_in(packet::judge_content(p), octets::byte_at(p, 26))
 }
 
-// What a packet of a good frame is, by its command and by whether its content is good.
-fn role_in(good: bool, command: u8) -> Role
-    ensures { result ≡ role_in good command }
+/// What a packet of a good frame is, by what the judge says of its content and by its command.
+#[tactic(auto, using(crate::proofs::Taking::refused_bad), unfolding(crate::specs::Takes::role_in))]
+fn role_in(content: Result<(), Refused>, command: u8) -> Result<Option<Reply>, Refused>
+    ensures { heard_told result ≡ asked (record { verdict = told content; role = role_in (is_good (told content)) command }) }
 {
-    if good {
-        return role_of_good(command);
-    }
-    if command == 5 {
-        return Role::Is(Reply::BadAnswer);
-    }
-    Role::Other
-}
-
-#[tactic(auto, unfolding(crate::specs::Takes::role_in))]
-fn role_of_good(command: u8) -> Role
-    ensures { result ≡ role_in true command }
-{
-    if command == 3 {
-        return Role::Is(Reply::Confirm);
-    }
-    if command == 5 {
-        return Role::Is(Reply::Answer);
-    }
-    if command == 6 {
-        return Role::Is(Reply::Deny);
-    }
-    Role::Other
-}
-
-// Nothing told, and the table as it came.
-fn untold(table: Exchanges, verdict: Verdict) -> Replied
-    ensures { result ≡ untold table verdict }
-{
-    Replied {
-        verdict,
-        place: 0,
-        outcome: places::UNTOLD,
-        state: table,
+    match (content, command) {
+        (Ok(()), 3) => Ok(Some(Reply::Confirm)),
+        (Ok(()), 5) => Ok(Some(Reply::Answer)),
+        (Ok(()), 6) => Ok(Some(Reply::Deny)),
+        (Ok(()), _) => Ok(None),
+        (Err(_), 5) => Ok(Some(Reply::BadAnswer)),
+        (Err(refused), _) => Err(refused),
     }
 }
