@@ -1,6 +1,10 @@
 -- "For each public call the statement determines answer, state and every lent byte on all inputs; prove that no two different results
 -- satisfy it": over each call's own contract, its `Post`, and not over a copy. Calls that lend nothing. Assumes nothing.
 use mathlib.Core.Path.{◌≡◌, sym, ◌∙◌}
+use Rattle.devices.proofs.Told.{counted-determined}
+use Rattle.label.proofs.Showing.{shown-determined}
+use Rattle.place.proofs.Told.{step-determined}
+use Rattle.verdict.proofs.Told.{told-determined, told-alone, placed-determined}
 use Rattle.octets.proofs.byte_at.Reads as octets-byte-at
 use Rattle.octets.proofs.two_at.Reads as octets-two-at
 use Rattle.octets.proofs.four_at.Reads as octets-four-at
@@ -13,9 +17,6 @@ use Rattle.octets.proofs.bits.Reads as octets-bits
 use Rattle.octets.proofs.sum.Reads as octets-sum
 use Rattle.octets.proofs.added.Reads as octets-added
 use Rattle.verdict.proofs.Verdict.good.Reads as verdict-verdict-good
-use Rattle.verdict.proofs.Verdict.refused.Reads as verdict-verdict-refused
-use Rattle.verdict.proofs.Verdict.is_good.Reads as verdict-verdict-is-good
-use Rattle.verdict.proofs.Part.refused.Reads as verdict-part-refused
 use Rattle.verdict.proofs.all_numbers.Reads as verdict-all-numbers
 use Rattle.naming.proofs.name_of.Reads as naming-name-of
 use Rattle.label.proofs.Label.read_at.Reads as label-label-read-at
@@ -33,7 +34,6 @@ use Rattle.unit.proofs.object_place.Reads as unit-object-place
 use Rattle.fields.proofs.Fields.of.Reads as fields-of
 use Rattle.unit.proofs.judge.Reads as unit-judge
 use Rattle.unit.proofs.place_in.Reads as unit-place-in
-use Rattle.unit.proofs.place_after.Reads as unit-place-after
 use Rattle.typed.proofs.read.Reads as typed-read
 use Rattle.typed.proofs.description_place.Reads as typed-description-place
 use Rattle.frame.proofs.unit_length.Reads as frame-unit-length
@@ -43,7 +43,6 @@ use Rattle.packet.proofs.judge.Reads as packet-judge
 use Rattle.packet.proofs.header_of.Reads as packet-header-of
 use Rattle.packet.proofs.read.Reads as packet-read
 use Rattle.packet.proofs.unit_place.Reads as packet-unit-place
-use Rattle.reading.proofs.Event.told.Reads as reading-event-told
 use Rattle.rows.proofs.less.Reads as rows-less
 use Rattle.rows.proofs.clear.Reads as rows-clear
 use Rattle.rows.proofs.noise.Reads as rows-noise
@@ -67,6 +66,18 @@ use Rattle.devices.proofs.judge.Reads as devices-judge
 use Rattle.devices.proofs.find_place.Reads as devices-find-place
 use Rattle.reply.proofs.Due.command.Reads as reply-due-command
 use Rattle.octets.proofs.wide.Reads as octets-wide
+use Rattle.verdict.proofs.Refusal.number.Reads as verdict-refusal-number
+use Rattle.verdict.proofs.Refusal.name.Reads as verdict-refusal-name
+use Rattle.verdict.proofs.Refusal.at.Reads as verdict-refusal-at
+use Rattle.verdict.proofs.ensure.Reads as verdict-ensure
+use Rattle.reading.proofs.Event.number.Reads as reading-event-number
+use Rattle.reading.proofs.Event.length.Reads as reading-event-length
+use Rattle.reading.proofs.Event.name.Reads as reading-event-name
+use Rattle.label.proofs.Shown.number.Reads as label-shown-number
+use Rattle.place.proofs.Mode.number.Reads as place-mode-number
+use Rattle.place.proofs.Outcome.number.Reads as place-outcome-number
+use Rattle.place.proofs.Outcome.name.Reads as place-outcome-name
+use Rattle.exchange.proofs.Exchanges.untold.Reads as exchange-exchanges-untold
 
 pub octets-byte-at-determined : (κs : _) (x : _) (r s : _) → octets-byte-at.Post κs x r x → octets-byte-at.Post κs x s x → r ≡ s
 octets-byte-at-determined κs x r s a b = a ∙ sym b
@@ -104,19 +115,10 @@ octets-added-determined κs x r s a b = a.0 ∙ sym b.0
 pub verdict-verdict-good-determined : (κs : _) (x : _) (r s : _) → verdict-verdict-good.Post κs x r x → verdict-verdict-good.Post κs x s x → r ≡ s
 verdict-verdict-good-determined κs x r s a b = a ∙ sym b
 
-pub verdict-verdict-refused-determined : (κs : _) (x : _) (r s : _) → verdict-verdict-refused.Post κs x r x → verdict-verdict-refused.Post κs x s x → r ≡ s
-verdict-verdict-refused-determined κs x r s a b = a ∙ sym b
-
-pub verdict-verdict-is-good-determined : (κs : _) (x : _) (r s : _) → verdict-verdict-is-good.Post κs x r x → verdict-verdict-is-good.Post κs x s x → r ≡ s
-verdict-verdict-is-good-determined κs x r s a b = a ∙ sym b
-
-pub verdict-part-refused-determined : (κs : _) (x : _) (r s : _) → verdict-part-refused.Post κs x r x → verdict-part-refused.Post κs x s x → r ≡ s
-verdict-part-refused-determined κs x r s a b = a ∙ sym b
-
 pub verdict-all-numbers-determined : (κs : _) (x : _) (r s : _) → verdict-all-numbers.Post κs x r x → verdict-all-numbers.Post κs x s x → r ≡ s
 verdict-all-numbers-determined κs x r s a b = a ∙ sym b
 
-pub naming-name-of-determined : (κs : _) (x : _) (r s : _) → naming-name-of.Post κs x r x → naming-name-of.Post κs x s x → r ≡ s
+pub naming-name-of-determined : (κs : _) (x : _) (r s : _) → naming-name-of.Post κs x r x → naming-name-of.Post κs x s x → r.now ≡ s.now
 naming-name-of-determined κs x r s a b = a ∙ sym b
 
 pub label-label-read-at-determined : (κs : _) (x : _) (r s : _) → label-label-read-at.Post κs x r x → label-label-read-at.Post κs x s x → r ≡ s
@@ -135,7 +137,7 @@ pub label-label-stands-in-determined : (κs : _) (x : _) (r s : _) → label-lab
 label-label-stands-in-determined κs x r s a b = a ∙ sym b
 
 pub label-label-shown-determined : (κs : _) (x : _) (r s : _) → label-label-shown.Post κs x r x → label-label-shown.Post κs x s x → r ≡ s
-label-label-shown-determined κs x r s a b = a ∙ sym b
+label-label-shown-determined κs x r s a b = shown-determined _ r s a b
 
 pub kinds-row-of-determined : (κs : _) (x : _) (r s : _) → kinds-row-of.Post κs x r x → kinds-row-of.Post κs x s x → r ≡ s
 kinds-row-of-determined κs x r s a b = a ∙ sym b
@@ -147,25 +149,22 @@ pub kinds-row-is-carried-by-determined : (κs : _) (x : _) (r s : _) → kinds-r
 kinds-row-is-carried-by-determined κs x r s a b = a ∙ sym b
 
 pub unit-judge-alone-determined : (κs : _) (x : _) (r s : _) → unit-judge-alone.Post κs x r x → unit-judge-alone.Post κs x s x → r ≡ s
-unit-judge-alone-determined κs x r s a b = a ∙ sym b
+unit-judge-alone-determined κs x r s a b = told-alone _ r s a b
 
 pub unit-judge-under-determined : (κs : _) (x : _) (r s : _) → unit-judge-under.Post κs x r x → unit-judge-under.Post κs x s x → r ≡ s
-unit-judge-under-determined κs x r s a b = a ∙ sym b
+unit-judge-under-determined κs x r s a b = told-alone _ r s a b
 
 pub unit-object-place-determined : (κs : _) (x : _) (r s : _) → unit-object-place.Post κs x r x → unit-object-place.Post κs x s x → r ≡ s
-unit-object-place-determined κs x r s a b = a ∙ sym b
+unit-object-place-determined κs x r s a b = placed-determined _ r s a b
 
 pub fields-of-determined : (κs : _) (x : _) (r s : _) → fields-of.Post κs x r x → fields-of.Post κs x s x → r ≡ s
 fields-of-determined κs x r s a b = a ∙ sym b
 
 pub unit-judge-determined : (κs : _) (x : _) (r s : _) → unit-judge.Post κs x r x → unit-judge.Post κs x s x → r ≡ s
-unit-judge-determined κs x r s a b = a ∙ sym b
+unit-judge-determined κs x r s a b = told-determined _ _ r s a.0 a.1 b.0 b.1
 
 pub unit-place-in-determined : (κs : _) (x : _) (r s : _) → unit-place-in.Post κs x r x → unit-place-in.Post κs x s x → r ≡ s
-unit-place-in-determined κs x r s a b = a ∙ sym b
-
-pub unit-place-after-determined : (κs : _) (x : _) (r s : _) → unit-place-after.Post κs x r x → unit-place-after.Post κs x s x → r ≡ s
-unit-place-after-determined κs x r s a b = a ∙ sym b
+unit-place-in-determined κs x r s a b = placed-determined _ r s a b
 
 pub rows-less-determined : (κs : _) (x : _) (r s : _) → rows-less.Post κs x r x → rows-less.Post κs x s x → r ≡ s
 rows-less-determined κs x r s a b = a ∙ sym b
@@ -180,19 +179,19 @@ pub typed-read-determined : (κs : _) (x : _) (r s : _) → typed-read.Post κs 
 typed-read-determined κs x r s a b = a ∙ sym b
 
 pub typed-description-place-determined : (κs : _) (x : _) (r s : _) → typed-description-place.Post κs x r x → typed-description-place.Post κs x s x → r ≡ s
-typed-description-place-determined κs x r s a b = a ∙ sym b
+typed-description-place-determined κs x r s a b = placed-determined _ r s a b
 
 pub frame-unit-length-determined : (κs : _) (x : _) (r s : _) → frame-unit-length.Post κs x r x → frame-unit-length.Post κs x s x → r ≡ s
 frame-unit-length-determined κs x r s a b = a.0 ∙ sym b.0
 
 pub frame-judge-frame-determined : (κs : _) (x : _) (r s : _) → frame-judge-frame.Post κs x r x → frame-judge-frame.Post κs x s x → r ≡ s
-frame-judge-frame-determined κs x r s a b = a ∙ sym b
+frame-judge-frame-determined κs x r s a b = told-determined _ _ r s a.0 a.1 b.0 b.1
 
 pub packet-judge-content-determined : (κs : _) (x : _) (r s : _) → packet-judge-content.Post κs x r x → packet-judge-content.Post κs x s x → r ≡ s
-packet-judge-content-determined κs x r s a b = a ∙ sym b
+packet-judge-content-determined κs x r s a b = told-alone _ r s a b
 
 pub packet-judge-determined : (κs : _) (x : _) (r s : _) → packet-judge.Post κs x r x → packet-judge.Post κs x s x → r ≡ s
-packet-judge-determined κs x r s a b = a ∙ sym b
+packet-judge-determined κs x r s a b = told-determined _ _ r s a.0 a.1 b.0 b.1
 
 pub packet-header-of-determined : (κs : _) (x : _) (r s : _) → packet-header-of.Post κs x r x → packet-header-of.Post κs x s x → r ≡ s
 packet-header-of-determined κs x r s a b = a ∙ sym b
@@ -201,10 +200,7 @@ pub packet-read-determined : (κs : _) (x : _) (r s : _) → packet-read.Post κ
 packet-read-determined κs x r s a b = a ∙ sym b
 
 pub packet-unit-place-determined : (κs : _) (x : _) (r s : _) → packet-unit-place.Post κs x r x → packet-unit-place.Post κs x s x → r ≡ s
-packet-unit-place-determined κs x r s a b = a ∙ sym b
-
-pub reading-event-told-determined : (κs : _) (x : _) (r s : _) → reading-event-told.Post κs x r x → reading-event-told.Post κs x s x → r ≡ s
-reading-event-told-determined κs x r s a b = a ∙ sym b
+packet-unit-place-determined κs x r s a b = placed-determined _ r s a b
 
 pub receiver-receiver-fresh-determined : (κs : _) (x : _) (r s : _) → receiver-receiver-fresh.Post κs x r x → receiver-receiver-fresh.Post κs x s x → r ≡ s
 receiver-receiver-fresh-determined κs x r s a b = a ∙ sym b
@@ -219,13 +215,13 @@ pub place-place-free-determined : (κs : _) (x : _) (r s : _) → place-place-fr
 place-place-free-determined κs x r s a b = a ∙ sym b
 
 pub place-place-denied-determined : (κs : _) (x : _) (r s : _) → place-place-denied.Post κs x r x → place-place-denied.Post κs x s x → r ≡ s
-place-place-denied-determined κs x r s a b = a ∙ sym b
+place-place-denied-determined κs x r s a b = step-determined _ r s a b
 
 pub place-place-weight-determined : (κs : _) (x : _) (r s : _) → place-place-weight.Post κs x r x → place-place-weight.Post κs x s x → r ≡ s
 place-place-weight-determined κs x r s a b = a.1 ∙ sym b.1
 
 pub place-place-replied-determined : (κs : _) (x : _) (r s : _) → place-place-replied.Post κs x r x → place-place-replied.Post κs x s x → r ≡ s
-place-place-replied-determined κs x r s a b = a ∙ sym b
+place-place-replied-determined κs x r s a b = step-determined _ r s a b
 
 pub places-find-opening-determined : (κs : _) (x : _) (r s : _) → places-find-opening.Post κs x r x → places-find-opening.Post κs x s x → r ≡ s
 places-find-opening-determined κs x r s a b = a ∙ sym b
@@ -252,10 +248,10 @@ pub taking-take-determined : (κs : _) (x : _) (r s : _) → taking-take.Post κ
 taking-take-determined κs x r s a b = a ∙ sym b
 
 pub devices-judge-determined : (κs : _) (x : _) (r s : _) → devices-judge.Post κs x r x → devices-judge.Post κs x s x → r ≡ s
-devices-judge-determined κs x r s a b = a ∙ sym b
+devices-judge-determined κs x r s a b = counted-determined _ r s a b
 
 pub devices-find-place-determined : (κs : _) (x : _) (r s : _) → devices-find-place.Post κs x r x → devices-find-place.Post κs x s x → r ≡ s
-devices-find-place-determined κs x r s a b = a ∙ sym b
+devices-find-place-determined κs x r s a b = placed-determined _ r s a b
 
 pub octets-wide-determined : (κs : _) (x : _) (r s : _) → octets-wide.Post κs x r x → octets-wide.Post κs x s x → r ≡ s
 octets-wide-determined κs x r s a b = a.0 ∙ sym b.0
@@ -265,3 +261,39 @@ reply-due-command-determined κs x r s a b = a ∙ sym b
 
 pub place-all-outcomes-determined : (κs : _) (x : _) (r s : _) → place-all-outcomes.Post κs x r x → place-all-outcomes.Post κs x s x → r ≡ s
 place-all-outcomes-determined κs x r s a b = a ∙ sym b
+
+pub verdict-refusal-number-determined : (κs : _) (x : _) (r s : _) → verdict-refusal-number.Post κs x r x → verdict-refusal-number.Post κs x s x → r ≡ s
+verdict-refusal-number-determined κs x r s a b = a ∙ sym b
+
+pub verdict-refusal-name-determined : (κs : _) (x : _) (r s : _) → verdict-refusal-name.Post κs x r x → verdict-refusal-name.Post κs x s x → r.now ≡ s.now
+verdict-refusal-name-determined κs x r s a b = a ∙ sym b
+
+pub verdict-refusal-at-determined : (κs : _) (x : _) (r s : _) → verdict-refusal-at.Post κs x r x → verdict-refusal-at.Post κs x s x → r ≡ s
+verdict-refusal-at-determined κs x r s a b = a ∙ sym b
+
+pub verdict-ensure-determined : (κs : _) (x : _) (r s : _) → verdict-ensure.Post κs x r x → verdict-ensure.Post κs x s x → r ≡ s
+verdict-ensure-determined κs x r s a b = a ∙ sym b
+
+pub reading-event-number-determined : (κs : _) (x : _) (r s : _) → reading-event-number.Post κs x r x → reading-event-number.Post κs x s x → r ≡ s
+reading-event-number-determined κs x r s a b = a ∙ sym b
+
+pub reading-event-length-determined : (κs : _) (x : _) (r s : _) → reading-event-length.Post κs x r x → reading-event-length.Post κs x s x → r ≡ s
+reading-event-length-determined κs x r s a b = a ∙ sym b
+
+pub reading-event-name-determined : (κs : _) (x : _) (r s : _) → reading-event-name.Post κs x r x → reading-event-name.Post κs x s x → r.now ≡ s.now
+reading-event-name-determined κs x r s a b = a ∙ sym b
+
+pub label-shown-number-determined : (κs : _) (x : _) (r s : _) → label-shown-number.Post κs x r x → label-shown-number.Post κs x s x → r ≡ s
+label-shown-number-determined κs x r s a b = a ∙ sym b
+
+pub place-mode-number-determined : (κs : _) (x : _) (r s : _) → place-mode-number.Post κs x r x → place-mode-number.Post κs x s x → r ≡ s
+place-mode-number-determined κs x r s a b = a ∙ sym b
+
+pub place-outcome-number-determined : (κs : _) (x : _) (r s : _) → place-outcome-number.Post κs x r x → place-outcome-number.Post κs x s x → r ≡ s
+place-outcome-number-determined κs x r s a b = a ∙ sym b
+
+pub place-outcome-name-determined : (κs : _) (x : _) (r s : _) → place-outcome-name.Post κs x r x → place-outcome-name.Post κs x s x → r.now ≡ s.now
+place-outcome-name-determined κs x r s a b = a ∙ sym b
+
+pub exchange-exchanges-untold-determined : (κs : _) (x : _) (r s : _) → exchange-exchanges-untold.Post κs x r x → exchange-exchanges-untold.Post κs x s x → r ≡ s
+exchange-exchanges-untold-determined κs x r s a b = a ∙ sym b

@@ -12,9 +12,12 @@ use Rattle.fields.specs.declared.Fields.{Fields}
 use Rattle.label.specs.declared.Label.{Label}
 use Rattle.packet.specs.declared.Header.{Header}
 use Rattle.reading.specs.declared.Event.{Event}
-use Rattle.reply.specs.Dues.{Answer}
-use Rattle.verdict.specs.declared.Part.{Part}
-use Rattle.verdict.specs.declared.Verdict.{Verdict}
+use Rattle.reply.specs.declared.Due.{Due}
+use Rattle.std.specs.Prelude.{Result, Option, ⊤}
+use Rattle.std.specs.declared.ops.Range.{Range}
+use Rattle.verdict.specs.declared.Refused.{Refused}
+use Rattle.reply.proofs.Told.{answer-determined}
+use Rattle.verdict.proofs.Told.{told-alone, placed-determined}
 use Rattle.octets.proofs.part_of.Reads as octets-part-of
 use Rattle.unit.proofs.object.Reads as unit-object
 use Rattle.typed.proofs.description.Reads as typed-description
@@ -53,35 +56,35 @@ packet-unit-of-determined κs x r s a b = (a.0 ∙ sym b.0, a.1 ∙ sym b.1)
 pub devices-find-determined : (κs : _) (x : _) (r s : Bor (List ℕ)) → devices-find.Post κs x r x → devices-find.Post κs x s x → (r.now ≡ s.now) × (r.ref_ptr ≡ s.ref_ptr)
 devices-find-determined κs x r s a b = (a.0 ∙ sym b.0, a.1 ∙ sym b.1)
 
-pub output-write-determined : (κs : _) (out o o' : MutBor (List ℕ)) (h : Header) (l : ℕ) (r s : Verdict)
+pub output-write-determined : (κs : _) (out o o' : MutBor (List ℕ)) (h : Header) (l : ℕ) (r s : Result ⊤ Refused)
     → output-write.Post κs (out, (h, (l, tt))) r (o, (h, (l, tt))) → output-write.Post κs (out, (h, (l, tt))) s (o', (h, (l, tt))) → (r ≡ s) × (o.now ≡ o'.now)
-output-write-determined κs out o o' h l r s a b = (a.0 ∙ sym b.0, a.1 ∙ sym b.1)
+output-write-determined κs out o o' h l r s a b = (told-alone _ r s a.0 b.0, a.1 ∙ sym b.1)
 
 pub exchange-exchanges-begin-and-write-determined : (κs : _) (x : Exchanges) (n : ℕ) (out o o' : MutBor (List ℕ)) (d : Draft) (l : ℕ) (r s : Begun)
     → exchange-exchanges-begin-and-write.Post κs (x, (n, (out, (d, (l, tt))))) r (x, (n, (o, (d, (l, tt)))))
     → exchange-exchanges-begin-and-write.Post κs (x, (n, (out, (d, (l, tt))))) s (x, (n, (o', (d, (l, tt))))) → (r ≡ s) × (o.now ≡ o'.now)
 exchange-exchanges-begin-and-write-determined κs x n out o o' d l r s a b = (a.0 ∙ sym b.0, a.1 ∙ sym b.1)
 
-pub output-write-object-determined : (κs : _) (out o o' : MutBor (List ℕ)) (l : ℕ) (k : ℕ) (f : Fields) (d : Bor (List ℕ)) (r s : Verdict)
+pub output-write-object-determined : (κs : _) (out o o' : MutBor (List ℕ)) (l : ℕ) (k : ℕ) (f : Fields) (d : Bor (List ℕ)) (r s : Result ⊤ Refused)
     → output-write-object.Post κs (out, (l, (k, (f, (d, tt))))) r (o, (l, (k, (f, (d, tt)))))
     → output-write-object.Post κs (out, (l, (k, (f, (d, tt))))) s (o', (l, (k, (f, (d, tt))))) → (r ≡ s) × (o.now ≡ o'.now)
-output-write-object-determined κs out o o' l k f d r s a b = (a.0 ∙ sym b.0, a.1 ∙ sym b.1)
+output-write-object-determined κs out o o' l k f d r s a b = (told-alone _ r s a.0 b.0, a.1 ∙ sym b.1)
 
-pub output-write-text-determined : (κs : _) (out o o' : MutBor (List ℕ)) (t : Bor (List ℕ)) (r s : Verdict)
+pub output-write-text-determined : (κs : _) (out o o' : MutBor (List ℕ)) (t : Bor (List ℕ)) (r s : Result ⊤ Refused)
     → output-write-text.Post κs (out, (t, tt)) r (o, (t, tt)) → output-write-text.Post κs (out, (t, tt)) s (o', (t, tt)) → (r ≡ s) × (o.now ≡ o'.now)
-output-write-text-determined κs out o o' t r s a b = (a.0 ∙ sym b.0, a.1 ∙ sym b.1)
+output-write-text-determined κs out o o' t r s a b = (told-alone _ r s a.0 b.0, a.1 ∙ sym b.1)
 
-pub objects-write-determined : (κs : _) (out o o' : MutBor (List ℕ)) (k : ℕ) (f : Fields) (d : Bor (List ℕ)) (r s : Verdict)
+pub objects-write-determined : (κs : _) (out o o' : MutBor (List ℕ)) (k : ℕ) (f : Fields) (d : Bor (List ℕ)) (r s : Result ⊤ Refused)
     → objects-write.Post κs (out, (k, (f, (d, tt)))) r (o, (k, (f, (d, tt)))) → objects-write.Post κs (out, (k, (f, (d, tt)))) s (o', (k, (f, (d, tt)))) → (r ≡ s) × (o.now ≡ o'.now)
-objects-write-determined κs out o o' k f d r s a b = (a.0 ∙ sym b.0, a.1 ∙ sym b.1)
+objects-write-determined κs out o o' k f d r s a b = (told-alone _ r s a.0 b.0, a.1 ∙ sym b.1)
 
-pub objects-write-text-determined : (κs : _) (out o o' : MutBor (List ℕ)) (t : Bor (List ℕ)) (r s : Verdict)
+pub objects-write-text-determined : (κs : _) (out o o' : MutBor (List ℕ)) (t : Bor (List ℕ)) (r s : Result ⊤ Refused)
     → objects-write-text.Post κs (out, (t, tt)) r (o, (t, tt)) → objects-write-text.Post κs (out, (t, tt)) s (o', (t, tt)) → (r ≡ s) × (o.now ≡ o'.now)
-objects-write-text-determined κs out o o' t r s a b = (a.0 ∙ sym b.0, a.1 ∙ sym b.1)
+objects-write-text-determined κs out o o' t r s a b = (told-alone _ r s a.0 b.0, a.1 ∙ sym b.1)
 
-pub reply-answer-to-determined : (κs : _) (out o o' : MutBor (List ℕ)) (p : Bor (List ℕ)) (t : Label) (r s : Answer)
+pub reply-answer-to-determined : (κs : _) (out o o' : MutBor (List ℕ)) (p : Bor (List ℕ)) (t : Label) (r s : Result (Option Due) Refused)
     → reply-answer-to.Post κs (p, (t, (out, tt))) r (p, (t, (o, tt))) → reply-answer-to.Post κs (p, (t, (out, tt))) s (p, (t, (o', tt))) → (r ≡ s) × (o.now ≡ o'.now)
-reply-answer-to-determined κs out o o' p t r s a b = (a.0 ∙ sym b.0, a.1 ∙ sym b.1)
+reply-answer-to-determined κs out o o' p t r s a b = (answer-determined _ r s a.0 b.0, a.1 ∙ sym b.1)
 
 pub octets-put-determined : (κs : _) (out o o' : MutBor (List ℕ)) (k : ℕ) (t : Bor (List ℕ)) (r s : _)
     → octets-put.Post κs (out, (k, (t, tt))) r (o, (k, (t, tt))) → octets-put.Post κs (out, (k, (t, tt))) s (o', (k, (t, tt))) → o.now ≡ o'.now
@@ -93,13 +96,13 @@ rows-span-determined κs x r s a b = (a.0 ∙ sym b.0, a.1 ∙ sym b.1)
 pub rows-wipe-determined : (κs : _) (row o o' : MutBor (List ℕ)) (r s : _) → rows-wipe.Post κs (row, tt) r (o, tt) → rows-wipe.Post κs (row, tt) s (o', tt) → o.now ≡ o'.now
 rows-wipe-determined κs row o o' r s a b = a ∙ sym b
 
-pub naming-write-front-determined : (κs : _) (t : Bor (List ℕ)) (out o o' : MutBor (List ℕ)) (r s : Part)
+pub naming-write-front-determined : (κs : _) (t : Bor (List ℕ)) (out o o' : MutBor (List ℕ)) (r s : Result (Range ℕ) Refused)
     → naming-write-front.Post κs (t, (out, tt)) r (t, (o, tt)) → naming-write-front.Post κs (t, (out, tt)) s (t, (o', tt)) → (r ≡ s) × (o.now ≡ o'.now)
-naming-write-front-determined κs t out o o' r s a b = (a.0 ∙ sym b.0, a.1 ∙ sym b.1)
+naming-write-front-determined κs t out o o' r s a b = (placed-determined _ r s a.0 b.0, a.1 ∙ sym b.1)
 
-pub naming-write-name-determined : (κs : _) (n : ℕ) (out o o' : MutBor (List ℕ)) (r s : Part)
+pub naming-write-name-determined : (κs : _) (n : ℕ) (out o o' : MutBor (List ℕ)) (r s : Result (Range ℕ) Refused)
     → naming-write-name.Post κs (n, (out, tt)) r (n, (o, tt)) → naming-write-name.Post κs (n, (out, tt)) s (n, (o', tt)) → (r ≡ s) × (o.now ≡ o'.now)
-naming-write-name-determined κs n out o o' r s a b = (a.0 ∙ sym b.0, a.1 ∙ sym b.1)
+naming-write-name-determined κs n out o o' r s a b = (placed-determined _ r s a.0 b.0, a.1 ∙ sym b.1)
 
 pub lines-event-line-determined : (κs : _) (n : ℕ) (e : Event) (p : Bor (List ℕ)) (row o o' : MutBor (List ℕ)) (r s : ℕ)
     → lines-event-line.Post κs (n, (e, (p, (row, tt)))) r (n, (e, (p, (o, tt))))

@@ -15,8 +15,8 @@ use Rattle.reading.specs.Values.{MORE, PACKET, told, start_byte, packet_of}
 use Rattle.reading.specs.Finding.{Heard, reading}
 use Rattle.reading.specs.Calls.{State, Answer, called}
 use Rattle.reading.specs.Offers.{heard_in, joined, counted_all}
-use Rattle.reading.specs.declared.Event.{Event}
-use Rattle.reading.specs.declared.Event.TheVariants.{More, Noise, Length, End, Sum, Packet, Refused}
+use Rattle.reading.specs.Events.{Event}
+use Rattle.reading.specs.Events.Event.{More, Noise, Length, End, Sum, Packet, Refused}
 use Rattle.reading.proofs.Account.{accounts}
 use Rattle.reading.proofs.Call.{Good}
 use Rattle.reading.proofs.Demand.{GoesOn, call-on}

@@ -1,7 +1,7 @@
 -- Answers as C sees them: an event and a reply's command as numbers.
 -- Assumes nothing.
 use Rattle.reading.specs.Values.{told}
-use Rattle.receiver.specs.declared.Served.{Served}
+use Rattle.receiver.specs.Receivers.{Served}
 use Rattle.reply.specs.Dues.{Answer}
 use Rattle.reply.specs.Replies.{command_for}
 use Rattle.trawnosz.specs.declared.ServedC.{ServedC}

@@ -32,6 +32,7 @@ use fields::Fields;
 use label::Label;
 use packet::{Header, Opened};
 use place::Reply;
+use reply::Due;
 use typed::Typed;
 use verdict::{Part, Verdict};
 
@@ -65,6 +66,7 @@ pub extern "C" fn trawnosz_fresh(hold: &mut [u8; 1054])
     receiver::clear_lent(hold)
 }
 
+#[tactic(auto, unfolding(reading::specs::Values::told))]
 #[unsafe(no_mangle)]
 pub extern "C" fn trawnosz_receive(
     hold: &mut [u8; 1054],
@@ -77,16 +79,23 @@ pub extern "C" fn trawnosz_receive(
     ensures hold_after { hold.new ≡ (called 1024 (lent hold.old held count) piece.now out.old).state.hold }
     ensures out_after { out.new ≡ (called 1024 (lent hold.old held count) piece.now out.old).out }
 {
-    let s = receiver::receive_lent(hold, held, count, piece, out);
-    let event = s.event;
-    let told = event.told();
-    ServedC {
-        event: told.number,
-        length: told.length,
-        skipped: s.skipped,
-        taken: s.taken,
-        held: s.held,
-        count: s.count,
+    match receiver::receive_lent(hold, held, count, piece, out) {
+        Ok(s) => ServedC {
+            event: s.event.number(),
+            length: s.event.length(),
+            skipped: s.skipped,
+            taken: s.taken,
+            held: s.held,
+            count: s.count,
+        },
+        Err(refused) => ServedC {
+            event: refused.refusal.number(),
+            length: 0,
+            skipped: 0,
+            taken: 0,
+            held,
+            count,
+        },
     }
 }
 
@@ -94,7 +103,7 @@ pub extern "C" fn trawnosz_receive(
 pub extern "C" fn trawnosz_judge_packet(p: &[u8]) -> Verdict
     ensures { result ≡ judged_packet rows p.now }
 {
-    packet::judge(p)
+    Verdict::from(packet::judge(p))
 }
 
 #[unsafe(no_mangle)]
@@ -108,7 +117,7 @@ pub extern "C" fn trawnosz_read_packet(p: &[u8]) -> Opened
 pub extern "C" fn trawnosz_find_unit(p: &[u8]) -> Part
     ensures { result ≡ unit_place rows p.now }
 {
-    packet::unit_place(p)
+    Part::from(packet::unit_place(p))
 }
 
 #[unsafe(no_mangle)]
@@ -116,7 +125,7 @@ pub extern "C" fn trawnosz_write_packet(out: &mut [u8], header: Header, length: 
     ensures value { result ≡ packet_verdict rows out.old header length }
     ensures out_after { out.new ≡ written_packet rows out.old header length }
 {
-    output::write(out, header, length)
+    Verdict::from(output::write(out, header, length))
 }
 
 #[unsafe(no_mangle)]
@@ -130,7 +139,7 @@ pub extern "C" fn trawnosz_write_packet_object(
     ensures value { result ≡ object_verdict rows out.old length number fields description.now }
     ensures out_after { out.new ≡ written_object table out.old length number fields description.now }
 {
-    output::write_object(out, length, number, fields, description)
+    Verdict::from(output::write_object(out, length, number, fields, description))
 }
 
 #[unsafe(no_mangle)]
@@ -138,7 +147,7 @@ pub extern "C" fn trawnosz_write_packet_text(out: &mut [u8], text: &[u8]) -> Ver
     ensures value { result ≡ output_text_verdict out.old text.now }
     ensures out_after { out.new ≡ written_output_text out.old text.now }
 {
-    output::write_text(out, text)
+    Verdict::from(output::write_text(out, text))
 }
 
 #[unsafe(no_mangle)]
@@ -146,12 +155,15 @@ pub extern "C" fn trawnosz_answer_to(p: &[u8], label: Label, out: &mut [u8]) -> 
     ensures value { result ≡ answer_to (answered rows p.now label out.old) }
     ensures out_after { out.new ≡ written_reply rows p.now label out.old }
 {
-    let a = reply::answer_to(p, label, out);
-    let verdict = a.verdict;
-    let due = a.due;
-    AnswerC {
-        verdict,
-        command: due.command(),
+    match reply::answer_to(p, label, out) {
+        Ok(due) => AnswerC {
+            verdict: Verdict::good(),
+            command: due.map_or(0, Due::command),
+        },
+        Err(refused) => AnswerC {
+            verdict: Verdict::from(refused),
+            command: 0,
+        },
     }
 }
 
@@ -159,14 +171,14 @@ pub extern "C" fn trawnosz_answer_to(p: &[u8], label: Label, out: &mut [u8]) -> 
 pub extern "C" fn trawnosz_judge_unit(u: &[u8]) -> Verdict
     ensures { result ≡ judged_unit rows None u.now }
 {
-    unit::judge_alone(u)
+    Verdict::from(unit::judge_alone(u))
 }
 
 #[unsafe(no_mangle)]
 pub extern "C" fn trawnosz_judge_unit_under(u: &[u8], command: u8) -> Verdict
     ensures { result ≡ judged_under rows command u.now }
 {
-    unit::judge_under(u, command)
+    Verdict::from(unit::judge_under(u, command))
 }
 
 #[unsafe(no_mangle)]
@@ -180,7 +192,7 @@ pub extern "C" fn trawnosz_unit_length(kind: u8, n: usize) -> usize
 pub extern "C" fn trawnosz_find_object(u: &[u8], number: usize) -> Part
     ensures { result ≡ object_place rows u.now number }
 {
-    unit::object_place(u, number)
+    Part::from(unit::object_place(u, number))
 }
 
 #[unsafe(no_mangle)]
@@ -194,7 +206,7 @@ pub extern "C" fn trawnosz_read_object(u: &[u8], number: usize) -> Typed
 pub extern "C" fn trawnosz_find_description(u: &[u8], number: usize) -> Part
     ensures { result ≡ description_place rows u.now number }
 {
-    typed::description_place(u, number)
+    Part::from(typed::description_place(u, number))
 }
 
 #[unsafe(no_mangle)]
@@ -207,7 +219,7 @@ pub extern "C" fn trawnosz_write_object(
     ensures value { result ≡ write_verdict rows u.old number fields description.now }
     ensures u_after { u.new ≡ written_unit table u.old number fields description.now }
 {
-    objects::write(u, number, fields, description)
+    Verdict::from(objects::write(u, number, fields, description))
 }
 
 #[unsafe(no_mangle)]
@@ -215,7 +227,7 @@ pub extern "C" fn trawnosz_write_text(out: &mut [u8], text: &[u8]) -> Verdict
     ensures value { result ≡ text_verdict out.old text.now }
     ensures out_after { out.new ≡ written_text out.old text.now }
 {
-    objects::write_text(out, text)
+    Verdict::from(objects::write_text(out, text))
 }
 
 #[unsafe(no_mangle)]
@@ -294,14 +306,14 @@ pub extern "C" fn trawnosz_tick(table: Exchanges) -> Ticked
 pub extern "C" fn trawnosz_judge_table(table: &[u8]) -> Judgement
     ensures { result ≡ judgement of_systems of_parts table.now }
 {
-    devices::judge(table)
+    Judgement::from(devices::judge(table))
 }
 
 #[unsafe(no_mangle)]
 pub extern "C" fn trawnosz_find_part(table: &[u8], key: PartKey) -> Part
     ensures { result ≡ found_place of_systems of_parts table.now (key_bytes key) }
 {
-    devices::find_place(table, key)
+    Part::from(devices::find_place(table, key))
 }
 
 #[unsafe(no_mangle)]
@@ -309,7 +321,7 @@ pub extern "C" fn trawnosz_name(number: u8, out: &mut [u8]) -> Part
     ensures value { result ≡ front_part (letters number) out.old }
     ensures out_after { out.new ≡ put_at out.old 0 (letters number) }
 {
-    naming::write_name(number, out)
+    Part::from(naming::write_name(number, out))
 }
 
 #[unsafe(no_mangle)]
@@ -317,6 +329,5 @@ pub extern "C" fn trawnosz_release(out: &mut [u8]) -> Part
     ensures value { result ≡ front_part release out.old }
     ensures out_after { out.new ≡ put_at out.old 0 release }
 {
-    let text = RELEASE;
-    naming::write_front(&text, out)
+    Part::from(naming::write_front(&RELEASE, out))
 }
