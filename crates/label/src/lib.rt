@@ -105,18 +105,18 @@ impl Label {
         }
     }
 
-    /// Each byte alone, day and month last: of the four in the middle the compiler then makes one test.
+    /// Whether each byte lies in its own range.
     #[inline]
     #[tactic(auto, unfolding(crate::specs::Times::in_ranges))]
     fn is_in_range(self) -> bool
         ensures { result ≡ in_ranges ranges (label_bytes self) }
     {
-        self.second <= 59
-            && self.minute <= 59
-            && self.hour <= 23
-            && self.year <= 99
-            && (1..=31).contains(&self.day)
-            && (1..=12).contains(&self.month)
+        matches!(self.second, 0..=59)
+            && matches!(self.minute, 0..=59)
+            && matches!(self.hour, 0..=23)
+            && matches!(self.day, 1..=31)
+            && matches!(self.month, 1..=12)
+            && matches!(self.year, 0..=99)
     }
 
     #[inline]

@@ -1,6 +1,7 @@
+pub mod Chunks
+pub mod Searching
 pub mod Walks
 pub mod Sizes
-pub mod Shapes
 pub mod Times
 pub mod Judging
 pub mod Under
