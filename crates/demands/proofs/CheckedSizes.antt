@@ -15,8 +15,8 @@ use Rattle.output.specs.Packets.{head_bytes, packet_bytes}
 use Rattle.packet.specs.Frames.{judged_content, judged_packet}
 use Rattle.reply.specs.Replies.{due_to, reply_verdict, answered, written_reply}
 use Rattle.place.specs.declared.Reply.TheVariants.{Confirm, Answer, Deny, BadAnswer}
-use Rattle.taking.specs.declared.Role.{Role}
-use Rattle.taking.specs.declared.Role.TheVariants.{Other, Is}
+use Rattle.taking.specs.Roles.{Role}
+use Rattle.taking.specs.Roles.Role.{Other, Is}
 use Rattle.taking.specs.Takes.{role_in, role_of}
 use Rattle.unit.specs.Objects.{text_size, end_of, walk, timely}
 use Rattle.unit.specs.Units.{one_size, judged_unit, judged_under}

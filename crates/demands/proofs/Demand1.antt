@@ -38,7 +38,7 @@ use Rattle.output.proofs.Judging.{kept, roomy}
 use Rattle.packet.specs.declared.Header.{Header}
 use Rattle.place.specs.declared.Reply.{Reply}
 use Rattle.place.specs.declared.Reply.TheVariants.{Confirm, Answer, Deny, BadAnswer}
-use Rattle.reading.specs.declared.Event.TheVariants.{Refused}
+use Rattle.reading.specs.Events.Event.{Refused}
 use Rattle.reading.specs.Values.{told}
 use Rattle.reading.specs.Finding.{first}
 use Rattle.reading.specs.Calls.{State, held_bytes, sound, call_tests, answer_by, called}
@@ -46,7 +46,7 @@ use Rattle.reading.specs.Calls.{Answer as Called}
 use Rattle.reading.proofs.Call.{call-refused}
 use Rattle.reading.proofs.Demand.{call-good}
 use Rattle.reading.proofs.Events.{refuses, first_taken, number-taken}
-use Rattle.reading.specs.declared.Event.{Event}
+use Rattle.reading.specs.Events.{Event}
 use Rattle.receiver.specs.Receivers.{lent, served_of}
 use Rattle.reply.specs.Replies.{command_for, reply_verdict, answered, written_reply}
 use Rattle.taking.proofs.Promises.{taken-kept}

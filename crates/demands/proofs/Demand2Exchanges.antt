@@ -46,7 +46,7 @@ use Rattle.packet.specs.Frames.{command_of, unit_of, judged_packet}
 use Rattle.packet.specs.Headers.{header_of, opened_packet}
 use Rattle.place.specs.declared.Place.{Place}
 use Rattle.place.specs.declared.Reply.{Reply}
-use Rattle.place.specs.declared.Step.{Step}
+use Rattle.place.specs.Steps.{Step}
 use Rattle.place.specs.declared.Reply.TheVariants.{Confirm, Answer, Deny, BadAnswer}
 use Rattle.place.specs.Rules.{free, opened, is_open}
 use Rattle.place.specs.Steps.{NOTHING, CONFIRMED, ANSWERED, RESENT, FAILED, becomes, counted, ticked, replied}

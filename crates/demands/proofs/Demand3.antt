@@ -12,7 +12,7 @@ use lib.ListN.{length}
 use Rattle.frame.specs.Frame.{frame_tests}
 use Rattle.reading.specs.Values.{PACKET, told}
 use Rattle.reading.specs.Finding.{Reading, reading}
-use Rattle.reading.specs.declared.Event.TheVariants.{Packet}
+use Rattle.reading.specs.Events.Event.{Packet}
 use Rattle.reading.specs.Calls.{State}
 use Rattle.reading.specs.Offers.{joined, state_of}
 use Rattle.reading.proofs.Call.{Good}
@@ -22,7 +22,9 @@ use Rattle.reading.proofs.Runs.{Streaming, CutAnywhere, calls_of}
 use Rattle.receiver.specs.declared.Receiver.{Receiver}
 use Rattle.receiver.specs.declared.Received.{Received}
 use Rattle.receiver.specs.declared.Served.{Served}
-use Rattle.receiver.specs.Receivers.{lent, given}
+use Rattle.receiver.specs.Receivers.{lent, given, received_by, served_by}
+use Rattle.std.specs.Prelude.{Result}
+use Rattle.verdict.specs.declared.Refused.{Refused}
 use Rattle.receiver.proofs.Demands.{Lending, Holding, Answers, answer_of, valued, receive-on, demand-3, Serves, served_in, served, lent-on, demand-3-lent}
 use Rattle.trawnosz.specs.declared.ServedC.{ServedC}
 use Rattle.trawnosz.proofs.Stream as stream
@@ -77,10 +79,10 @@ pub cut-anywhere-lent : (box : Serves receive-lent.Post) (in-hold : Holding) (by
     (reading 1024 0 0 (joined pieces)).heard
 cut-anywhere-lent = demand-3-lent
 
-pub lent-goes-on : (κs : Lfts 3) (hold h : MutBor (List ℕ)) (held skipped : ℕ) (piece : Bor (List ℕ)) (out o : MutBor (List ℕ)) (r : Served)
+pub lent-goes-on : (κs : Lfts 3) (hold h : MutBor (List ℕ)) (held skipped : ℕ) (piece : Bor (List ℕ)) (out o : MutBor (List ℕ)) (r : Result Served Refused)
     → Good 1024 (lent hold.now held skipped) → 1054 ≤ length out.now
     → receive-lent.Post κs (hold, (held, (skipped, (piece, (out, tt))))) r (h, (held, (skipped, (piece, (o, tt)))))
-    → GoesOn 1024 (lent hold.now held skipped) piece.now (served_in r h.now o.now)
+    → GoesOn 1024 (lent hold.now held skipped) piece.now (served_in (served_by held skipped r) h.now o.now)
 lent-goes-on = lent-on
 
 -- and by value
@@ -88,8 +90,8 @@ pub cut-anywhere-by-value : (box : Answers) (by : Lending 2) (x : Receiver) → 
     → CutAnywhere 1024 (calls_of 1024 (valued box by)) (given x) pieces (reading 1024 0 0 (joined pieces)) (reading 1024 0 0 (joined pieces)).heard
 cut-anywhere-by-value = demand-3
 
-pub value-goes-on : (κs : Lfts 2) (x : Receiver) (piece : Bor (List ℕ)) (out o : MutBor (List ℕ)) (r : Received) → Good 1024 (given x) → 1054 ≤ length out.now
-    → receive.Post κs (x, (piece, (out, tt))) r (x, (piece, (o, tt))) → GoesOn 1024 (given x) piece.now (answer_of r o.now)
+pub value-goes-on : (κs : Lfts 2) (x : Receiver) (piece : Bor (List ℕ)) (out o : MutBor (List ℕ)) (r : Result Received Refused) → Good 1024 (given x) → 1054 ≤ length out.now
+    → receive.Post κs (x, (piece, (out, tt))) r (x, (piece, (o, tt))) → GoesOn 1024 (given x) piece.now (answer_of (received_by (given x) r) o.now)
 value-goes-on = receive-on
 
 -- of every such run of the C calls

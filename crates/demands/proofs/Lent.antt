@@ -11,7 +11,6 @@ use Rattle.exchange.specs.declared.Exchanges.{Exchanges}
 use Rattle.fields.specs.declared.Fields.{Fields}
 use Rattle.label.specs.declared.Label.{Label}
 use Rattle.packet.specs.declared.Header.{Header}
-use Rattle.reading.specs.declared.Event.{Event}
 use Rattle.reply.specs.declared.Due.{Due}
 use Rattle.std.specs.Prelude.{Result, Option, ⊤}
 use Rattle.std.specs.declared.ops.Range.{Range}
@@ -33,7 +32,6 @@ use Rattle.reply.proofs.answer_to.Reads as reply-answer-to
 use Rattle.octets.proofs.put.Reads as octets-put
 use Rattle.naming.proofs.write_front.Reads as naming-write-front
 use Rattle.naming.proofs.write_name.Reads as naming-write-name
-use Rattle.lines.specs.declared.Why.{Why}
 use Rattle.lines.proofs.event_line.Reads as lines-event-line
 use Rattle.lines.proofs.last_line.Reads as lines-last-line
 use Rattle.lines.proofs.table_line.Reads as lines-table-line
@@ -104,19 +102,14 @@ pub naming-write-name-determined : (κs : _) (n : ℕ) (out o o' : MutBor (List 
     → naming-write-name.Post κs (n, (out, tt)) r (n, (o, tt)) → naming-write-name.Post κs (n, (out, tt)) s (n, (o', tt)) → (r ≡ s) × (o.now ≡ o'.now)
 naming-write-name-determined κs n out o o' r s a b = (placed-determined _ r s a.0 b.0, a.1 ∙ sym b.1)
 
-pub lines-event-line-determined : (κs : _) (n : ℕ) (e : Event) (p : Bor (List ℕ)) (row o o' : MutBor (List ℕ)) (r s : ℕ)
-    → lines-event-line.Post κs (n, (e, (p, (row, tt)))) r (n, (e, (p, (o, tt))))
-    → lines-event-line.Post κs (n, (e, (p, (row, tt)))) s (n, (e, (p, (o', tt)))) → (r ≡ s) × (o.now ≡ o'.now)
-lines-event-line-determined κs n e p row o o' r s a b = (a.0 ∙ sym b.0, a.1 ∙ sym b.1)
+pub lines-event-line-determined : (κs : _) (x : _) (r s : _) → lines-event-line.Post κs x r x → lines-event-line.Post κs x s x → r ≡ s
+lines-event-line-determined κs x r s a b = a ∙ sym b
 
-pub lines-last-line-determined : (κs : _) (h n : ℕ) (row o o' : MutBor (List ℕ)) (r s : ℕ)
-    → lines-last-line.Post κs (h, (n, (row, tt))) r (h, (n, (o, tt))) → lines-last-line.Post κs (h, (n, (row, tt))) s (h, (n, (o', tt))) → (r ≡ s) × (o.now ≡ o'.now)
-lines-last-line-determined κs h n row o o' r s a b = (a.0 ∙ sym b.0, a.1 ∙ sym b.1)
+pub lines-last-line-determined : (κs : _) (x : _) (r s : _) → lines-last-line.Post κs x r x → lines-last-line.Post κs x s x → r ≡ s
+lines-last-line-determined κs x r s a b = a ∙ sym b
 
-pub lines-table-line-determined : (κs : _) (f t : Bor (List ℕ)) (row o o' : MutBor (List ℕ)) (r s : ℕ)
-    → lines-table-line.Post κs (f, (t, (row, tt))) r (f, (t, (o, tt))) → lines-table-line.Post κs (f, (t, (row, tt))) s (f, (t, (o', tt))) → (r ≡ s) × (o.now ≡ o'.now)
-lines-table-line-determined κs f t row o o' r s a b = (a.0 ∙ sym b.0, a.1 ∙ sym b.1)
+pub lines-table-line-determined : (κs : _) (x : _) (r s : _) → lines-table-line.Post κs x r x → lines-table-line.Post κs x s x → r ≡ s
+lines-table-line-determined κs x r s a b = a ∙ sym b
 
-pub lines-unjudged-line-determined : (κs : _) (f : Bor (List ℕ)) (row o o' : MutBor (List ℕ)) (w : Why) (r s : ℕ)
-    → lines-unjudged-line.Post κs (f, (w, (row, tt))) r (f, (w, (o, tt))) → lines-unjudged-line.Post κs (f, (w, (row, tt))) s (f, (w, (o', tt))) → (r ≡ s) × (o.now ≡ o'.now)
-lines-unjudged-line-determined κs f row o o' w r s x y = (x.0 ∙ sym y.0, x.1 ∙ sym y.1)
+pub lines-unjudged-line-determined : (κs : _) (x : _) (r s : _) → lines-unjudged-line.Post κs x r x → lines-unjudged-line.Post κs x s x → r ≡ s
+lines-unjudged-line-determined κs x r s a b = a ∙ sym b

@@ -28,8 +28,8 @@ use Rattle.place.specs.Rules.{is_open}
 use Rattle.reply.specs.Dues.{Due, Nothing}
 use Rattle.reply.specs.Replies.{due_as, answer_as, written_reply_as}
 use Rattle.reply.proofs.Promises.{none-to-kept}
-use Rattle.taking.specs.declared.Role.{Role}
-use Rattle.taking.specs.declared.Role.TheVariants.{Other}
+use Rattle.taking.specs.Roles.{Role}
+use Rattle.taking.specs.Roles.Role.{Other}
 use Rattle.taking.specs.Takes.{role_in, taken_as}
 use Rattle.unit.specs.Units.{is_kept, empty_tests}
 use Rattle.unit.proofs.Under.{by-kept, kept-command, kept-good}

@@ -27,8 +27,8 @@ use Rattle.packet.specs.Frames.{command_of, unit_of, header_tests, judged_conten
 use Rattle.packet.specs.Headers.{header_of, read_as, opened_packet}
 use Rattle.reply.specs.Dues.{Due}
 use Rattle.reply.specs.Replies.{to_good, to_refused, due_to, answer_as, answered, written_reply_as, written_reply}
-use Rattle.taking.specs.declared.Role.{Role}
-use Rattle.taking.specs.declared.Role.TheVariants.{Other}
+use Rattle.taking.specs.Roles.{Role}
+use Rattle.taking.specs.Roles.Role.{Other}
 use Rattle.taking.specs.Takes.{role_in, role_of, taken_as, taken}
 use Rattle.typed.specs.Typing.{typed_at, typed_object, described_at, description_place}
 use Rattle.unit.specs.Objects.{type_of, timely, object_at}

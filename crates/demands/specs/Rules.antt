@@ -22,7 +22,7 @@ use Rattle.packet.specs.Frames.{command_of, unit_of}
 use Rattle.packet.specs.Headers.{header_of}
 use Rattle.reply.specs.Dues.{Due}
 use Rattle.reply.specs.Replies.{due_as, is_due}
-use Rattle.taking.specs.declared.Role.TheVariants.{Other}
+use Rattle.taking.specs.Roles.Role.{Other}
 use Rattle.taking.specs.Takes.{role_in, taken_as}
 use Rattle.unit.specs.Objects.{type_of, count_of, object_at}
 use Rattle.unit.specs.Places.{number_test, placed_after}
