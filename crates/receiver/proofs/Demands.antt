@@ -75,8 +75,8 @@ pub receive-determined : (κs : Lfts 2) (x : Receiver) (piece : Bor (List ℕ)) 
     → (r ≡ s) × (o.now ≡ p.now)
 receive-determined κs x piece out o p r s a b = (received-tells (given x) r s (a.0 ∙ sym b.0) a.1.0 b.1.0, a.1.1 ∙ sym b.1.1)
 
-pub lent-determined : (κs : Lfts 3) (hold h k : MutBor (List ℕ)) (held skipped : ℕ) (piece : Bor (List ℕ)) (out o p : MutBor (List ℕ))
-    (r s : Result CodedServed Refused) → receive-lent.Post κs (hold, (held, (skipped, (piece, (out, tt))))) r (h, (held, (skipped, (piece, (o, tt)))))
+pub lent-determined : (κs : Lfts 3) (hold h k : MutBor (List ℕ)) (held skipped : ℕ) (piece : Bor (List ℕ)) (out o p : MutBor (List ℕ)) (r s : Result CodedServed Refused)
+    → receive-lent.Post κs (hold, (held, (skipped, (piece, (out, tt))))) r (h, (held, (skipped, (piece, (o, tt)))))
     → receive-lent.Post κs (hold, (held, (skipped, (piece, (out, tt))))) s (k, (held, (skipped, (piece, (p, tt)))))
     → (r ≡ s) × (h.now ≡ k.now) × (o.now ≡ p.now)
 lent-determined κs hold h k held skipped piece out o p r s a b =

@@ -2,5 +2,4 @@ pub mod Refusing
 pub mod Order
 pub mod Walking
 pub mod Readings
-pub mod Handing
 pub mod Told

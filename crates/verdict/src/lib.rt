@@ -3,7 +3,7 @@
 
 ghost use Rattle.std.specs.Prelude.{◌≡◌, cond, Ok, Err, Some};
 ghost use Rattle.verdict.specs.Refusals.{numbers, number_of, name_of, Decodes};
-ghost use Rattle.verdict.specs.Orders.{good, refusal, is_good, no_part, refused_at, told, placed};
+ghost use Rattle.verdict.specs.Orders.{good, refusal, refused_at, told, placed};
 
 use std::error::Error;
 use std::fmt;
@@ -249,61 +249,8 @@ pub fn ensure(holds: bool, refusal: Refusal) -> Result<(), Refused>
     if holds { Ok(()) } else { Err(refusal.at(0)) }
 }
 
-pub const STATE: u8 = 1;
-
-pub const ROOM: u8 = 2;
-
-pub const CUT: u8 = 3;
-
-pub const START: u8 = 4;
-
-pub const LENGTH: u8 = 5;
-
-pub const END: u8 = 6;
-
-pub const SUM: u8 = 7;
-
-pub const VERSION: u8 = 8;
-
-pub const COMMAND: u8 = 9;
-
-pub const TIME: u8 = 10;
-
-pub const UNIT: u8 = 11;
-
-pub const TYPE: u8 = 12;
-
-pub const COUNT: u8 = 13;
-
-pub const SHORT: u8 = 14;
-
-pub const NUMBER: u8 = 15;
-
-pub const KIND: u8 = 16;
-
-pub const TEXT: u8 = 17;
-
-pub const SETTING: u8 = 18;
-
-pub const FULL: u8 = 19;
-
-pub const STRAY: u8 = 20;
-
-pub const MANY: u8 = 21;
-
-pub const ORDER: u8 = 22;
-
-pub const ORPHAN: u8 = 23;
-
-pub const TAIL: u8 = 24;
-
-pub const UNLISTED: u8 = 25;
-
-pub const LONG: u8 = 28;
-
-pub const CENTRE: u8 = 30;
-
 impl Verdict {
+    /// Nothing is refused.
     #[inline]
     pub fn good() -> Verdict
         ensures { result ≡ good }
@@ -313,39 +260,39 @@ impl Verdict {
             place: 0,
         }
     }
-
-    pub fn refused(number: u8, place: usize) -> Verdict
-        ensures { result ≡ refusal number place }
-    {
-        Verdict { number, place }
-    }
-
-    pub fn is_good(self) -> bool
-        ensures { result ≡ is_good self }
-    {
-        self.number == 0
-    }
 }
 
-impl Part {
-    pub fn refused(verdict: Verdict) -> Part
-        ensures { result ≡ no_part verdict }
-    {
-        Part {
-            verdict,
-            from: 0,
-            to: 0,
-        }
-    }
-}
-
-// Every refusal number, in the order of document 01's table, then document 02's.
+/// Every refusal's number, in the order of document 01's table, then document 02's.
 pub fn all_numbers() -> [u8; 27]
     ensures { result ≡ numbers }
 {
     [
-        STATE, ROOM, CUT, START, LENGTH, END, SUM, VERSION, COMMAND, TIME, UNIT, TYPE, COUNT,
-        SHORT, NUMBER, KIND, TEXT, SETTING, FULL, STRAY, MANY, ORDER, ORPHAN, TAIL, UNLISTED, LONG,
-        CENTRE,
+        Refusal::State.number(),
+        Refusal::Room.number(),
+        Refusal::Cut.number(),
+        Refusal::Start.number(),
+        Refusal::Length.number(),
+        Refusal::End.number(),
+        Refusal::Sum.number(),
+        Refusal::Version.number(),
+        Refusal::Command.number(),
+        Refusal::Time.number(),
+        Refusal::Unit.number(),
+        Refusal::Type.number(),
+        Refusal::Count.number(),
+        Refusal::Short.number(),
+        Refusal::Number.number(),
+        Refusal::Kind.number(),
+        Refusal::Text.number(),
+        Refusal::Setting.number(),
+        Refusal::Full.number(),
+        Refusal::Stray.number(),
+        Refusal::Many.number(),
+        Refusal::Order.number(),
+        Refusal::Orphan.number(),
+        Refusal::Tail.number(),
+        Refusal::Unlisted.number(),
+        Refusal::Long.number(),
+        Refusal::Centre.number(),
     ]
 }
