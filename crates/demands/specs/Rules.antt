@@ -1,4 +1,4 @@
--- The rules of a release, for what going back means (the tender: "going back is also a release"): each order that Q-1, Q-2 or Q-4 moved, over the rules z of a release. Some
+-- The rules of a release, for what going back means (the tender: "going back is also a release"): each order that Q-1, Q-2 or Q-4 moved, over the rules z of a release. At
 -- `in16` it is this release's, by computation (`this-release`), at the others that of an earlier one; what is answered, written and stored is each crate's own definition over what its order says.
 -- Assumes nothing.
 use Rattle.std.specs.Prelude.{ℕ, suc, ◌+◌, Bool, true, cond, ◌&&◌, List, [], ◌∷◌, ◌++◌, eqb, leb, length, get_or, drop, Some, None}
