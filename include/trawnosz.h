@@ -493,35 +493,35 @@ trawnosz_found trawnosz_release(uint8_t *out, size_t out_length);
 /* ---- Stack: the bytes that a call needs at most, all that it calls included, beside its arguments, its answer and what memcpy,
  * memmove and memset need; read out of the archive's code by tests/stack. ----
  *
- *   trawnosz_answer_to                312
- *   trawnosz_begin_and_write          696
- *   trawnosz_exchanges_fresh           24
- *   trawnosz_find_description         120
- *   trawnosz_find_object              120
- *   trawnosz_find_part                136
- *   trawnosz_find_unit                104
+ *   trawnosz_answer_to                408
+ *   trawnosz_begin_and_write         1448
+ *   trawnosz_exchanges_fresh          144
+ *   trawnosz_find_description         168
+ *   trawnosz_find_object              168
+ *   trawnosz_find_part                344
+ *   trawnosz_find_unit                232
  *   trawnosz_fresh                     16
- *   trawnosz_judge_packet              88
- *   trawnosz_judge_table               88
- *   trawnosz_judge_unit                72
- *   trawnosz_judge_unit_under          72
- *   trawnosz_name                     200
- *   trawnosz_read_object              208
- *   trawnosz_read_packet              152
- *   trawnosz_receive                  353
- *   trawnosz_release                   32
- *   trawnosz_reply_answer             528
- *   trawnosz_reply_bad_answer         528
- *   trawnosz_reply_confirm            544
- *   trawnosz_reply_deny               528
- *   trawnosz_take_packet              848
- *   trawnosz_tick                     872
- *   trawnosz_unit_length                8
- *   trawnosz_write_object             186
- *   trawnosz_write_packet             216
- *   trawnosz_write_packet_object      186
- *   trawnosz_write_packet_text         32
- *   trawnosz_write_text                24
+ *   trawnosz_judge_packet             216
+ *   trawnosz_judge_table              296
+ *   trawnosz_judge_unit               136
+ *   trawnosz_judge_unit_under         136
+ *   trawnosz_name                      40
+ *   trawnosz_read_object              296
+ *   trawnosz_read_packet              280
+ *   trawnosz_receive                  184
+ *   trawnosz_release                   16
+ *   trawnosz_reply_answer            1176
+ *   trawnosz_reply_bad_answer        1176
+ *   trawnosz_reply_confirm           1176
+ *   trawnosz_reply_deny              1176
+ *   trawnosz_take_packet             1352
+ *   trawnosz_tick                    1048
+ *   trawnosz_unit_length               40
+ *   trawnosz_write_object             312
+ *   trawnosz_write_packet             280
+ *   trawnosz_write_packet_object      344
+ *   trawnosz_write_packet_text         56
+ *   trawnosz_write_text                40
  */
 
 /* ---- The layout that the archive was built for, each member of each struct: an error in one of these lines is another one. ---- */
