@@ -1,14 +1,14 @@
 //! The lines that the programs print, each made whole, so that one write prints it.
 #![tactic(auto)]
 
-ghost use Rattle.std.specs.Prelude.{◌≡◌};
+ghost use Rattle.std.specs.Prelude.{◌≡◌, []};
 ghost use Rattle.devices.specs.Tables.{of_systems, of_parts, earlier_parts};
 ghost use Rattle.reading.specs.Events.{event_of};
 ghost use Rattle.lines.specs.Events.{packet_line, event_line, last_line};
 ghost use Rattle.lines.specs.Tables.{table_line, unjudged_line};
 
 use reading::Event;
-use row::{Last, Line, Word};
+use row::{Last, Line, Text, Word};
 use said::{FileName, Good, fault_of};
 use verdict::Verdict;
 
@@ -26,21 +26,25 @@ pub enum Why {
 }
 
 /// The line of an event, of no bytes where more is asked for.
+// Begun once and filled by each arm: a line that each arm makes is copied to where the answer is built.
 #[tactic(auto, using(naming::proofs::Naming::short_name, crate::proofs::Wording::no_line, crate::proofs::Wording::packet_found))]
 pub fn event_line(skipped: usize, event: Event, out: &[u8]) -> Line<128>
     ensures { result ≡ event_line skipped (event_of event) out.now }
 {
+    let mut line = Line::new();
     match event {
-        Event::More => Line::new(),
-        Event::Packet(length) => packet_line(skipped, length, rows::span(out, 0, length)),
-        _ => Line::of((Word(skipped), Last(naming::name_of(event.number())))),
+        Event::More => {}
+        Event::Packet(length) => put_packet(&mut line, skipped, length, rows::span(out, 0, length)),
+        _ => (Word(skipped), Last(naming::name_of(event.number()))).put(&mut line),
     }
+    line
 }
 
 /// A packet's line: also its length, serial and command, and what its judge says.
 #[tactic(auto, using(naming::proofs::Naming::short_name))]
-fn packet_line(skipped: usize, length: usize, p: &[u8]) -> Line<128>
-    ensures { result ≡ packet_line skipped length p.now }
+fn put_packet(line: &mut Line<128>, skipped: usize, length: usize, p: &[u8])
+    requires { line.old ≡ [] }
+    ensures { line.new ≡ packet_line skipped length p.now }
 {
     let header = packet::header_of(p);
     let verdict = Verdict::from(packet::judge(p));
@@ -52,7 +56,7 @@ fn packet_line(skipped: usize, length: usize, p: &[u8]) -> Line<128>
         Word(command),
         Last(naming::name_of(verdict.number)),
     );
-    Line::of((Word(skipped), Word(naming::name_of(reading::PACKET)), words))
+    (Word(skipped), Word(naming::name_of(reading::PACKET)), words).put(line);
 }
 
 /// The last line: what is held and skipped at the end.
@@ -68,6 +72,7 @@ pub fn last_line(held: usize, skipped: usize) -> Line<128>
 pub fn table_line(name: &[u8], table: &[u8]) -> Line<4352>
     ensures { result ≡ table_line of_systems of_parts earlier_parts name.now table.now }
 {
+    let mut line = Line::new();
     match devices::judge(table) {
         Ok(counts) => {
             let good = Good {
@@ -75,14 +80,15 @@ pub fn table_line(name: &[u8], table: &[u8]) -> Line<4352>
                 parts: counts.parts,
                 bytes: table.len(),
             };
-            Line::of((FileName(name), "OK", good, "\n"))
+            (FileName(name), "OK", good, "\n").put(&mut line);
         }
         Err(refused) => {
             let fault = fault_of(table, refused);
             let refusal = naming::name_of(refused.refusal.number());
-            Line::of((FileName(name), refusal, fault, "\n"))
+            (FileName(name), refusal, fault, "\n").put(&mut line);
         }
     }
+    line
 }
 
 /// The line of a file that could not be judged, since it is longer than a table may be or else cannot be read.

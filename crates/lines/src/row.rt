@@ -48,6 +48,7 @@ impl<const N: usize> Line<N> {
     }
 
     /// The line that a text is.
+    #[inline(always)]
     pub(crate) fn of<T: Text<N>>(text: T) -> Self
         requires { T.most text ≤ N }
         ensures { result ≡ T.text text }
@@ -58,13 +59,18 @@ impl<const N: usize> Line<N> {
     }
 
     /// Adds bytes behind the others.
+    #[inline(always)]
     fn push(&mut self, bytes: &[u8])
         requires { length self.old + length bytes.now ≤ N }
         ensures { self.new ≡ self.old ++ bytes.now }
     {
         let end = self.length + bytes.len();
         let all = &mut self.bytes[..];
-        all[self.length..end].copy_from_slice(bytes);
+        match bytes {
+            // By itself: most words are parted by one byte, and many numbers have one digit; a call that copies costs more than the byte.
+            [byte] => all[self.length] = *byte,
+            _ => all[self.length..end].copy_from_slice(bytes),
+        }
         self.length = end;
     }
 }
@@ -88,6 +94,7 @@ impl<const N: usize> Text<N> for &str {
 
     ghost most = { λ s. length s.now };
 
+    #[inline(always)]
     fn put(self, line: &mut Line<N>) {
         line.push(self.as_bytes());
     }
@@ -98,6 +105,7 @@ impl<const N: usize> Text<N> for &[u8] {
 
     ghost most = { λ s. length s.now };
 
+    #[inline(always)]
     fn put(self, line: &mut Line<N>) {
         line.push(self);
     }
@@ -109,6 +117,7 @@ impl<const N: usize> Text<N> for usize {
 
     ghost most = { λ _. 20 };
 
+    #[inline(always)]
     #[tactic(auto, using(crate::proofs::Digits::as_printed))]
     fn put(self, line: &mut Line<N>) {
         let mut digits = Buffer::new();
@@ -121,6 +130,7 @@ impl<const N: usize, A: Text<N>, B: Text<N>> Text<N> for (A, B) {
 
     ghost most = { λ x. A.most x.0 + B.most x.1 };
 
+    #[inline(always)]
     fn put(self, line: &mut Line<N>) {
         self.0.put(line);
         self.1.put(line);
@@ -132,6 +142,7 @@ impl<const N: usize, A: Text<N>, B: Text<N>, C: Text<N>> Text<N> for (A, B, C) {
 
     ghost most = { λ x. A.most x.0 + B.most x.1 + C.most x.2 };
 
+    #[inline(always)]
     fn put(self, line: &mut Line<N>) {
         ((self.0, self.1), self.2).put(line);
     }
@@ -142,6 +153,7 @@ impl<const N: usize, A: Text<N>, B: Text<N>, C: Text<N>, D: Text<N>> Text<N> for
 
     ghost most = { λ x. A.most x.0 + B.most x.1 + C.most x.2 + D.most x.3 };
 
+    #[inline(always)]
     fn put(self, line: &mut Line<N>) {
         ((self.0, self.1), (self.2, self.3)).put(line);
     }
@@ -153,6 +165,7 @@ impl<const N: usize, A: Text<N>, B: Text<N>, C: Text<N>, D: Text<N>, E: Text<N>,
 
     ghost most = { λ x. A.most x.0 + B.most x.1 + C.most x.2 + D.most x.3 + E.most x.4 + F.most x.5 };
 
+    #[inline(always)]
     fn put(self, line: &mut Line<N>) {
         ((self.0, self.1, self.2), (self.3, self.4, self.5)).put(line);
     }
@@ -167,6 +180,7 @@ impl<const N: usize, T: Text<N>> Text<N> for Word<T> {
 
     ghost most = { λ word. T.most word.0 + 1 };
 
+    #[inline(always)]
     fn put(self, line: &mut Line<N>) {
         (self.0, " ").put(line);
     }
@@ -181,6 +195,7 @@ impl<const N: usize, T: Text<N>> Text<N> for Last<T> {
 
     ghost most = { λ word. T.most word.0 + 1 };
 
+    #[inline(always)]
     fn put(self, line: &mut Line<N>) {
         (self.0, "\n").put(line);
     }

@@ -90,6 +90,7 @@ impl Listing {
 }
 
 /// Writes a line by one call.
+#[inline(always)]
 fn print_line(rt: &impl Print, line: &[u8]) -> Result<(), Failure> {
     rt.write_all(line).map_err(Failure::Output)
 }

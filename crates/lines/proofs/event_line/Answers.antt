@@ -6,4 +6,5 @@ use Rattle.lines.proofs.event_line.Goals as goal
 
 pub returns-in_default : goal.returns-in_default
 returns-in_default c =
-    short_made c.args.skipped c.args.out.now c.in_default.not-More c.in_default.not-Packet (c.name_of.ensures ∙ ap letters c.number.ensures) c.of.ensures
+    short_made c.args.skipped c.args.out.now c.in_default.not-More c.in_default.not-Packet (c.name_of.ensures ∙ ap letters c.number.ensures)
+    (c.put.ensures.so ∙ simp (c.new-line.ensures))
