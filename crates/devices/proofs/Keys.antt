@@ -1,10 +1,11 @@
 -- The dictionary order on keys is the library's order of lists, so what is known of that is known of it. Assumes nothing.
-use Prim.Native.Nat.{ℕ, zero, suc}
+use Prim.Native.Nat.{ℕ, zero, suc, ◌+◌}
 use native.Mathlib.Omega.{arith}
+use mathlib.Core.Logic.{◌⊎◌}
 use mathlib.Core.Bool.{true, false, true≢false, false≢true}
 use mathlib.Core.List.{List, [], ◌∷◌}
 use mathlib.Core.Path.{◌≡◌, refl, sym, ap, ◌∙◌}
-use lib.ListN.{take}
+use lib.ListN.{length, take}
 use Rattle.std.specs.declared.cmp.Ordering.{Ordering}
 use Rattle.std.specs.declared.cmp.Ordering.TheVariants.{Less, Equal, Greater}
 use Rattle.std.specs.Cmp.Lexicographic.{slice_cmp}
@@ -108,3 +109,26 @@ differ x y n = by-test (same x y) (λ e. absurd (n (same_true x y e))) (λ e. e)
 -- what stands below differs
 pub below-differ : (x y : List ℕ) → below x y ≡ true → same x y ≡ false
 below-differ x y p = sym (same_cmp x y Less (sym (below-cmp x y p)))
+
+-- compared byte by byte: the first bytes decide where they differ, and else what is behind them does
+module _ (x y xs ys : List ℕ) (a b : ℕ) (first : x ≡ a ∷ xs) (second : y ≡ b ∷ ys) (o : Ordering) (found : o ≡ nat_cmp a b) where
+  split : ordering_then o (compared xs ys) ≡ compared x y
+  split = ap (λ (p : Ordering). ordering_then p (compared xs ys)) found ∙ sym (λ i. compared (first i) (second i))
+
+  pub byte_ties : o ≡ Equal → slice_cmp nat_cmp xs ys ≡ slice_cmp nat_cmp x y
+  byte_ties e = ap (λ (p : Ordering). ordering_then p (compared xs ys)) (sym e) ∙ split
+
+  pub byte_decides : (o ≡ Equal → ⊥) → o ≡ slice_cmp nat_cmp x y
+  byte_decides n = stays o n ∙ split
+    where
+      stays : (p : Ordering) → (p ≡ Equal → ⊥) → p ≡ ordering_then p (compared xs ys)
+      stays Less m = refl
+      stays Equal m = absurd (m refl)
+      stays Greater m = refl
+
+-- where one has come to its end, the lengths do
+pub lengths_decide : (x y : List ℕ) (m n : ℕ) → (x ≡ []) ⊎ (y ≡ []) → length x + n ≡ length y + m → nat_cmp m n ≡ slice_cmp nat_cmp x y
+lengths_decide [] [] m n h e = grind (arith, nat_tests)
+lengths_decide [] (b ∷ y) m n h e = grind (arith, nat_tests)
+lengths_decide (a ∷ x) [] m n h e = grind (arith, nat_tests)
+lengths_decide (a ∷ x) (b ∷ y) m n h e = absurd (grind (arith, nat_tests))

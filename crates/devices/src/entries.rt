@@ -1,6 +1,8 @@
 //! The entries of one section of a device table.
 
 ghost use Rattle.std.specs.Prelude.{◌≡◌, ℕ, true, false, ◌+◌, ◌≤◌, ◌<◌, length, cond, Ok, Err, IfOk, IfSome, IsNone};
+ghost use Rattle.std.specs.Cmp.Lexicographic.{slice_cmp};
+ghost use Rattle.std.specs.Ordering.{nat_cmp};
 ghost use Rattle.verdict.specs.Orders.{in_order, good, told, refused_at};
 ghost use Rattle.verdict.specs.declared.Refusal.TheVariants.{Order};
 ghost use Rattle.devices.specs.Keys.{below};
@@ -10,6 +12,22 @@ use crate::Section;
 use std::cmp::Ordering;
 use std::ops::Range;
 use verdict::{Refusal, Refused, ensure};
+
+/// How two keys stand to one another, first byte foremost.
+///
+/// By itself and inlined, so that the sections' key lengths write its turns out: the `cmp` of slices is a call with loops for long ones.
+#[inline(always)]
+fn order(x: &[u8], y: &[u8]) -> Ordering
+    ensures { result ≡ slice_cmp nat_cmp x.now y.now }
+{
+    for (a, b) in x.iter().zip(y) {
+        match a.cmp(b) {
+            Ordering::Equal => {}
+            unequal => return unequal,
+        }
+    }
+    x.len().cmp(&y.len())
+}
 
 /// The entries of a section that begins at a place of a table and is there to its end.
 #[derive(Clone, Copy)]
@@ -101,7 +119,7 @@ impl<'a> Entries<'a> {
         requires { k < self.now.count }
         ensures { result ≡ rises self.now.section self.now.table.now self.now.from k }
     {
-        k == 0 || self.key(k - 1).cmp(self.key(k)).is_lt()
+        k == 0 || order(self.key(k - 1), self.key(k)).is_lt()
     }
 
     /// ORDER at a place, where entry `k` does not stand above the one before it.
@@ -137,7 +155,7 @@ impl<'a> Entries<'a> {
         ensures behind { IfSome result (λ m. (k : ℕ) → k < m → below (key_at self.now.section self.now.table.now self.now.from k) key.now ≡ true) }
     {
         for k in first..self.count {
-            match self.key(k).cmp(key) {
+            match order(self.key(k), key) {
                 Ordering::Less => {}
                 Ordering::Equal => return Some(k),
                 Ordering::Greater => return None,

@@ -24,6 +24,9 @@ pub(crate) struct Table<'a> {
 
 impl<'a> Table<'a> {
     /// Judges a table: each section's count and size and then its entries one by one; TAIL last.
+    ///
+    /// Inlined, so that its callers know the sections' sizes and a refusal fills no table in memory.
+    #[inline(always)]
     pub(crate) fn judge(bytes: &'a [u8]) -> Result<Self, Refused>
         ensures verdict { told result ≡ judged of_systems of_parts bytes.now }
         ensures table { IfOk result (λ table. table.systems.table.now ≡ bytes.now) }
