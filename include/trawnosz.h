@@ -498,11 +498,11 @@ trawnosz_found trawnosz_release(uint8_t *out, size_t out_length);
  *   trawnosz_exchanges_fresh          144
  *   trawnosz_find_description         168
  *   trawnosz_find_object              168
- *   trawnosz_find_part                136
+ *   trawnosz_find_part                 72
  *   trawnosz_find_unit                232
  *   trawnosz_fresh                     16
  *   trawnosz_judge_packet             216
- *   trawnosz_judge_table              104
+ *   trawnosz_judge_table               48
  *   trawnosz_judge_unit               136
  *   trawnosz_judge_unit_under         136
  *   trawnosz_name                      40

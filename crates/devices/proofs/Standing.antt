@@ -10,11 +10,13 @@ use lib.ListN.{length, take, drop}
 use Rattle.std.specs.Cmp.Lexicographic.{slice_cmp}
 use Rattle.std.specs.Ordering.{nat_cmp, is_lt}
 use Rattle.std.specs.declared.cmp.Ordering.{Ordering}
+use Rattle.std.proofs.lemmas.List.{take_rest}
+use Rattle.octets.specs.Numbers.{low_first}
 use Rattle.octets.specs.Parts.{part}
 use Rattle.octets.proofs.Parts.{part-is}
 use Rattle.devices.specs.declared.Section.{Section}
 use Rattle.devices.specs.Keys.{below}
-use Rattle.devices.specs.Sections.{entry_at, first_bytes, key_at, rises}
+use Rattle.devices.specs.Sections.{count_at, entry_at, first_bytes, key_at, rises}
 use Rattle.devices.proofs.Keys.{below_cmp, below-trans}
 
 module _ (z : Section) (from : ℕ) where
@@ -46,6 +48,11 @@ pub bytes_cut : (z : Section) (t : List ℕ) (from k n at : ℕ) → at ≡ entr
 unfolding first_bytes
 bytes_cut z t from k n at e fits =
     sym (part-is t at (at + n) (omega arith) fits) ∙ ap (λ (j : ℕ). part t j (j + n)) e
+
+-- a section's count, as the code reads it from the bytes that begin with the section
+pub count_read : (t : List ℕ) (from count : ℕ) → count ≡ low_first (take 2 (take (length t - from) (drop from t))) → count ≡ count_at t from
+unfolding count_at
+count_read t from count e = e ∙ ap (λ (l : List ℕ). low_first (take 2 l)) (take_rest t from)
 
 module _ (z : Section) (t : List ℕ) (from : ℕ) where
   pub first_rises : (k : ℕ) → k ≡ 0 → rises z t from k ≡ true

@@ -56,7 +56,8 @@ impl<'a> Entries<'a> {
     {
         let left = table.len() - from;
         ensure(2 <= left, Refusal::Cut)?;
-        let count = usize::from(octets::two_at(table, from));
+        // Of the rest by itself: its length, which was tested, rules out the way that copies fewer than two bytes.
+        let count = usize::from(octets::two_at(&table[from..], 0));
         ensure(count <= section.limit, Refusal::Many)?;
         ensure(count * section.entry <= left - 2, Refusal::Cut)?;
         Ok(Entries {
