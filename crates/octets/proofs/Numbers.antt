@@ -46,6 +46,18 @@ pub four_read : (s : List ℕ) (at : ℕ) (b : List ℕ) → b ≡ one_by_one s 
 unfolding low_first
 four_read s at b e = ap (from_le_bytes w32) e ∙ omega arith ∙ sym (low_read s at 4)
 
+-- the bytes that stand for a number are so many, and bytes
+pub length-bytes : (n x : ℕ) → length (bytes_of n x) ≡ n
+unfolding bytes_of
+length-bytes zero x = refl
+length-bytes (suc n) x = ap suc (length-bytes n _)
+
+pub octets-bytes : (n x : ℕ) → Octets (bytes_of n x)
+unfolding bytes_of
+octets-bytes zero x i = omega arith
+octets-bytes (suc n) x zero = omega arith
+octets-bytes (suc n) x (suc i) = octets-bytes n _ i
+
 octets-take : (n : ℕ) (s : List ℕ) → Octets s → Octets (take n s)
 octets-take zero s h i = omega arith
 octets-take (suc n) [] h i = h i

@@ -1,10 +1,16 @@
 -- The laws of lists that two crates want and the library lacks. Assumes nothing.
-use Prim.Native.Nat.{ℕ, zero, suc, ◌-◌}
-use native.Mathlib.Nat.{not-suc-le-zero, le_of_eq, zero-sub, suc-sub-suc, sub-zero}
+use Prim.Native.Nat.{ℕ, zero, suc, ◌-◌, ◌<◌}
+use native.Mathlib.Nat.{not-suc-le-zero, le_of_suc-le-suc, le_of_eq, zero-sub, suc-sub-suc, sub-zero}
 use mathlib.Core.Path.{◌≡◌, refl, sym, ap, ◌∙◌}
 use mathlib.Core.List.{List, [], ◌∷◌, ◌++◌}
-use lib.ListN.{length, take, drop}
+use lib.ListN.{length, get_or, take, drop}
 use lib.Seq.{take-nil}
+
+-- inside a list, what would stand behind its end does not matter
+pub get_or-inside : {A : Type 0} (l : List A) (n : ℕ) (d e : A) → n < length l → get_or l n d ≡ get_or l n e
+get_or-inside [] n d e h = absurd (not-suc-le-zero h)
+get_or-inside (x ∷ l) zero d e h = refl
+get_or-inside (x ∷ l) (suc n) d e h = get_or-inside l n d e (le_of_suc-le-suc h)
 
 pub no-elements : {A : Type 0} (l : List A) → length l ≡ 0 → l ≡ []
 no-elements [] h = refl
