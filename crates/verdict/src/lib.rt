@@ -3,7 +3,7 @@
 
 ghost use Rattle.std.specs.Prelude.{◌≡◌, cond, Ok, Err, Some};
 ghost use Rattle.verdict.specs.Refusals.{numbers, number_of, name_of, Decodes};
-ghost use Rattle.verdict.specs.Orders.{good, refusal, refused_at, told, placed};
+ghost use Rattle.verdict.specs.Orders.{good, refusal, is_good, refused_at, told, placed};
 
 use std::error::Error;
 use std::fmt;
@@ -259,6 +259,14 @@ impl Verdict {
             number: 0,
             place: 0,
         }
+    }
+
+    /// Whether nothing is refused.
+    #[inline]
+    pub fn is_good(self) -> bool
+        ensures { result ≡ is_good self }
+    {
+        self.number == 0
     }
 }
 
