@@ -11,9 +11,10 @@ use Rattle.verdict.specs.declared.Part.{Part}
 use Rattle.verdict.specs.declared.Refusal.{Refusal}
 use Rattle.verdict.specs.declared.Refusal.TheVariants.{State, Room, Cut, Start, Length, End, Sum, Version, Command, Time, Unit as OfUnit, «Type» as OfType, Count, Short, Number, Kind, Text, Setting, Full, Stray, Many, Order, Orphan, Tail, Unlisted, Long, Centre}
 use Rattle.verdict.specs.declared.Refused.{Refused}
+use Rattle.verdict.specs.declared.UnknownRefusal.{UnknownRefusal}
 use Rattle.verdict.specs.declared.Verdict.{Verdict}
 use Rattle.verdict.specs.Orders.{told, placed, is_good, good, refusal}
-use Rattle.verdict.specs.Refusals.{number_of}
+use Rattle.verdict.specs.Refusals.{number_of, Decodes}
 
 -- every refusal, and the one that has a number
 abbrev all : List Refusal
@@ -59,6 +60,13 @@ or-state None = State
 -- so two refusals with one number are one
 pub number-tells : (r s : Refusal) → number_of r ≡ number_of s → r ≡ s
 number-tells r s e = ap or-state (sym (refusal-of-number r) ∙ ap refusal_of e ∙ refusal-of-number s)
+
+-- and a number is decoded in one way
+pub decoded-determined : (n : ℕ) (r s : Result Refusal UnknownRefusal) → Decodes n r → Decodes n s → r ≡ s
+decoded-determined n (Ok x) (Ok y) p q = ap Ok (number-tells x y (p ∙ sym q))
+decoded-determined n (Ok x) (Err f) p q = absurd (q.1 x p)
+decoded-determined n (Err e) (Ok y) p q = absurd (p.1 y q)
+decoded-determined n (Err e) (Err f) p q = ap (λ m. Err (record { 0 = m })) (p.0 ∙ sym q.0)
 
 -- and no refusal is told as the good one
 pub not-good : (r : Refusal) (n : ℕ) → is_good (refusal (number_of r) n) ≡ false
