@@ -218,8 +218,8 @@ pub(crate) fn fault_of(table: &[u8], refused: Refused) -> Fault
         Refusal::Order => Fault::Order(entry_at(table, refused.place)),
         Refusal::Orphan => Fault::Orphan(entry_at(table, refused.place)),
         Refusal::Tail => Fault::Tail {
-            rest: table.len().saturating_sub(table_end(table)),
-            last: octets::byte_at(table, table.len().saturating_sub(1)),
+            rest: rows::less(table.len(), table_end(table)),
+            last: octets::byte_at(table, rows::less(table.len(), 1)),
         },
         _ => sections_fault(table),
     }
@@ -264,7 +264,7 @@ fn section_fault(noun: Noun, section: Section, table: &[u8], from: usize) -> Fau
     ensures { fault_said result ≡ ascii ": " ++ section_said (noun_said noun) section table.now from }
 {
     if table.len() < from + 2 {
-        let left = table.len().saturating_sub(from);
+        let left = rows::less(table.len(), from);
         return Fault::CountCut { noun, left };
     }
     let count = usize::from(octets::two_at(table, from));

@@ -33,7 +33,7 @@ pub fn serve<const MAX: usize>(
     };
     let found = line.first(skipped);
     line.deliver(&found, out);
-    let taken = found.looked.saturating_sub(held);
+    let taken = rows::less(found.looked, held);
     let now = settle(hold, held, found.next, &piece[..taken]);
     Ok(Served {
         event: found.event,
@@ -60,9 +60,9 @@ fn settle(hold: &mut [u8], held: usize, next: usize, taken: &[u8]) -> usize
     ensures value { result ≡ length (drop next (take held hold.old ++ taken.now)) }
     ensures hold_after { hold.new ≡ pad_to (length hold.old) (drop next (take held hold.old ++ taken.now)) }
 {
-    let keep = held.saturating_sub(next);
+    let keep = rows::less(held, next);
     shift(hold, next, keep);
-    let tail = rows::span(taken, next.saturating_sub(held), taken.len());
+    let tail = rows::span(taken, rows::less(next, held), taken.len());
     octets::put(hold, keep, tail);
     let now = keep + tail.len();
     if now < held {

@@ -13,7 +13,7 @@ use Rattle.receiver.specs.Lines.{step_of}
 use Rattle.receiver.specs.Receivers.{lent}
 use Rattle.receiver.proofs.Serves.{Gives, Keeping, Serving, keeping, let_through, refused_so, state-refused, room-refused, taken-there, answer, packet-there, packet-fits, hold-is, left-fits}
 use Rattle.receiver.proofs.serve.serve.Goals as goal
-use Rattle.receiver.proofs.serve.serve.Goals.{After-from_residual, After-from_residual-in_err-ensure-2, In_ok-ensure, After-first-found, After-saturating_sub-taken, After-settle-now}
+use Rattle.receiver.proofs.serve.serve.Goals.{After-from_residual, After-from_residual-in_err-ensure-2, In_ok-ensure, After-first-found, After-less-taken, After-settle-now}
 
 -- a state that breaks its rules
 broken : (g : _) (c : After-from_residual g)
@@ -54,8 +54,8 @@ so g c =
     }
 
 -- of which so many bytes are taken
-took : (g : _) (c : After-saturating_sub-taken g) → c.saturating_sub-taken.result ≡ c.first-found.result.looked - c.args.held
-took g c = omega (arith, c.saturating_sub-taken.ensures)
+took : (g : _) (c : After-less-taken g) → c.less-taken.result ≡ c.first-found.result.looked - c.args.held
+took g c = omega (arith, c.less-taken.ensures)
 
 pub returns-in_err-ensure-clause-value : goal.returns-in_err-ensure-clause-value
 returns-in_err-ensure-clause-value g c = (broken g c).0
@@ -93,7 +93,7 @@ deliver-requires g c =
 pub slice_bounds-settle-end : goal.slice_bounds-settle-end
 slice_bounds-settle-end g c =
     let h = taken-there _ (so g (goal.at.slice_bounds-settle-end g c).After-first-found) in
-    sym (length-take-le _ _ (omega (arith, h, took g (goal.at.slice_bounds-settle-end g c).After-saturating_sub-taken)))
+    sym (length-take-le _ _ (omega (arith, h, took g (goal.at.slice_bounds-settle-end g c).After-less-taken)))
 
 pub settle-now-requires-clause-held_in_bounds : goal.settle-now-requires-clause-held_in_bounds
 settle-now-requires-clause-held_in_bounds g c = (kept g (goal.at.settle-now-requires-clause-held_in_bounds g c).In_ok-ensure).inside
@@ -104,7 +104,7 @@ settle-now-requires-clause-hold_value g c = hold-is _ (so g (goal.at.settle-now-
 pub settle-now-requires-clause-taken_in_bounds : goal.settle-now-requires-clause-taken_in_bounds
 settle-now-requires-clause-taken_in_bounds g c =
     left-fits _ (so g (goal.at.settle-now-requires-clause-taken_in_bounds g c).After-first-found)
-    (took g (goal.at.settle-now-requires-clause-taken_in_bounds g c).After-saturating_sub-taken)
+    (took g (goal.at.settle-now-requires-clause-taken_in_bounds g c).After-less-taken)
 
 -- the whole answer
 given : (g : _) (c : After-settle-now g)
@@ -113,12 +113,12 @@ given : (g : _) (c : After-settle-now g)
     (Ok record {
       event = c.first-found.result.event;
       skipped = c.first-found.result.carried;
-      taken = c.saturating_sub-taken.result;
+      taken = c.less-taken.result;
       held = c.settle-now.result;
       count = c.first-found.result.count;
     }) c.settle-now.new.hold c.deliver.new.out
 given g c =
-    answer _ (so g (goal.at.After-settle-now g c).After-first-found) (took g (goal.at.After-settle-now g c).After-saturating_sub-taken)
+    answer _ (so g (goal.at.After-settle-now g c).After-first-found) (took g (goal.at.After-settle-now g c).After-less-taken)
     c.settle-now.ensures.value c.settle-now.ensures.hold_after c.deliver.ensures
 
 pub returns-clause-value : goal.returns-clause-value

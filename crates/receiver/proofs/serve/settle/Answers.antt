@@ -7,7 +7,7 @@ use Rattle.receiver.proofs.serve.settle.Goals.{After-put}
 -- what was done when the new length is taken
 so : (c : After-put)
     → let a = c.args in
-    Settling a.hold.now a.held a.next a.taken.now c.saturating_sub-keep.result c.span-tail.result.now c.put.new.out
+    Settling a.hold.now a.held a.next a.taken.now c.less-keep.result c.span-tail.result.now c.put.new.out
 so c = search
 
 pub returns-then-now-held-clause-hold_after : goal.returns-then-now-held-clause-hold_after
