@@ -3,7 +3,7 @@ use Prim.Native.Nat.{ℕ, ◌+◌, ◌≤◌}
 use native.Mathlib.Omega.{arith}
 use mathlib.Core.List.{List, ◌++◌}
 use mathlib.Core.Path.{◌≡◌, refl}
-use lib.ListN.{length, take}
+use lib.ListN.{length, take, length-take}
 use lib.Seq.{take-append-le, take_at, length-take-le}
 use Rattle.reading.specs.Events.{Event}
 use Rattle.reading.specs.Events.Event.{More, Noise, Length, End, Sum, Packet, Refused}
@@ -28,6 +28,17 @@ worth-is End xs h = refl
 worth-is Sum xs h = refl
 worth-is (Packet n) xs h = omega (arith, length-take-le n xs h)
 worth-is (Refused n) xs h = refl
+
+-- a packet has no more bytes than its event is worth
+pub packet-small : (e : Event) (xs : List ℕ) → length (packet_of e xs) ≤ worth e
+unfolding worth packet_of told
+packet-small More xs = omega arith
+packet-small Noise xs = omega arith
+packet-small Length xs = omega arith
+packet-small End xs = omega arith
+packet-small Sum xs = omega arith
+packet-small (Packet n) xs = omega (arith, length-take n xs)
+packet-small (Refused n) xs = omega arith
 
 -- a packet is there whole, whatever follows
 pub packet-kept : (e : Event) (xs ys : List ℕ) → worth e ≤ length xs → packet_of e (xs ++ ys) ≡ packet_of e xs
