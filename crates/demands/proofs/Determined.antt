@@ -3,8 +3,8 @@
 use mathlib.Core.Path.{◌≡◌, sym, ◌∙◌}
 use Rattle.devices.proofs.Told.{counted-determined}
 use Rattle.label.proofs.Showing.{shown-determined}
-use Rattle.place.proofs.Told.{step-determined}
-use Rattle.verdict.proofs.Told.{told-determined, told-alone, placed-determined}
+use Rattle.place.proofs.Told.{step-determined, mode-decoded, outcome-decoded}
+use Rattle.verdict.proofs.Told.{told-determined, told-alone, placed-determined, decoded-determined}
 use Rattle.octets.proofs.byte_at.Reads as octets-byte-at
 use Rattle.octets.proofs.two_at.Reads as octets-two-at
 use Rattle.octets.proofs.four_at.Reads as octets-four-at
@@ -17,6 +17,7 @@ use Rattle.octets.proofs.bits.Reads as octets-bits
 use Rattle.octets.proofs.sum.Reads as octets-sum
 use Rattle.octets.proofs.added.Reads as octets-added
 use Rattle.verdict.proofs.Verdict.good.Reads as verdict-verdict-good
+use Rattle.verdict.proofs.Verdict.is_good.Reads as verdict-verdict-is-good
 use Rattle.verdict.proofs.all_numbers.Reads as verdict-all-numbers
 use Rattle.naming.proofs.name_of.Reads as naming-name-of
 use Rattle.label.proofs.Label.read_at.Reads as label-label-read-at
@@ -78,6 +79,20 @@ use Rattle.place.proofs.Mode.number.Reads as place-mode-number
 use Rattle.place.proofs.Outcome.number.Reads as place-outcome-number
 use Rattle.place.proofs.Outcome.name.Reads as place-outcome-name
 use Rattle.exchange.proofs.Exchanges.untold.Reads as exchange-exchanges-untold
+use Rattle.verdict.proofs.RefusalTryFromU8.try_from.Reads as verdict-refusal-try-from-u8
+use Rattle.verdict.proofs.RefusedFromRefusal.from.Reads as verdict-refused-from-refusal
+use Rattle.verdict.proofs.VerdictFromRefused.from.Reads as verdict-verdict-from-refused
+use Rattle.verdict.proofs.VerdictFromResultRefused.from.Reads as verdict-verdict-from-result-refused
+use Rattle.verdict.proofs.PartFromResultRangeUsizeRefused.from.Reads as verdict-part-from-result-range-refused
+use Rattle.label.proofs.LabelFromArrayU86.from.Reads as label-label-from-array
+use Rattle.label.proofs.ArrayU86FromLabel.from.Reads as label-array-from-label
+use Rattle.typed.proofs.TypedFromRefused.from.Reads as typed-typed-from-refused
+use Rattle.place.proofs.ModeTryFromU16.try_from.Reads as place-mode-try-from-u16
+use Rattle.place.proofs.OutcomeTryFromU8.try_from.Reads as place-outcome-try-from-u8
+use Rattle.exchange.proofs.AddressPartialEq.eq.Reads as exchange-address-partial-eq
+use Rattle.devices.proofs.ArrayU87FromPartKey.from.Reads as devices-array-from-part-key
+use Rattle.devices.proofs.JudgementFromResultCountsRefused.from.Reads as devices-judgement-from-result
+use Rattle.lines.proofs.row.LineDerefSlice.deref.Reads as lines-row-line-deref
 
 pub octets-byte-at-determined : (κs : _) (x : _) (r s : _) → octets-byte-at.Post κs x r x → octets-byte-at.Post κs x s x → r ≡ s
 octets-byte-at-determined κs x r s a b = a ∙ sym b
@@ -114,6 +129,9 @@ octets-added-determined κs x r s a b = a.0 ∙ sym b.0
 
 pub verdict-verdict-good-determined : (κs : _) (x : _) (r s : _) → verdict-verdict-good.Post κs x r x → verdict-verdict-good.Post κs x s x → r ≡ s
 verdict-verdict-good-determined κs x r s a b = a ∙ sym b
+
+pub verdict-verdict-is-good-determined : (κs : _) (x : _) (r s : _) → verdict-verdict-is-good.Post κs x r x → verdict-verdict-is-good.Post κs x s x → r ≡ s
+verdict-verdict-is-good-determined κs x r s a b = a ∙ sym b
 
 pub verdict-all-numbers-determined : (κs : _) (x : _) (r s : _) → verdict-all-numbers.Post κs x r x → verdict-all-numbers.Post κs x s x → r ≡ s
 verdict-all-numbers-determined κs x r s a b = a ∙ sym b
@@ -297,3 +315,45 @@ place-outcome-name-determined κs x r s a b = a ∙ sym b
 
 pub exchange-exchanges-untold-determined : (κs : _) (x : _) (r s : _) → exchange-exchanges-untold.Post κs x r x → exchange-exchanges-untold.Post κs x s x → r ≡ s
 exchange-exchanges-untold-determined κs x r s a b = a ∙ sym b
+
+pub verdict-refusal-try-from-u8-determined : (κs : _) (x : _) (r s : _) → verdict-refusal-try-from-u8.Post κs x r x → verdict-refusal-try-from-u8.Post κs x s x → r ≡ s
+verdict-refusal-try-from-u8-determined κs x r s a b = decoded-determined _ r s a b
+
+pub verdict-refused-from-refusal-determined : (κs : _) (x : _) (r s : _) → verdict-refused-from-refusal.Post κs x r x → verdict-refused-from-refusal.Post κs x s x → r ≡ s
+verdict-refused-from-refusal-determined κs x r s a b = a ∙ sym b
+
+pub verdict-verdict-from-refused-determined : (κs : _) (x : _) (r s : _) → verdict-verdict-from-refused.Post κs x r x → verdict-verdict-from-refused.Post κs x s x → r ≡ s
+verdict-verdict-from-refused-determined κs x r s a b = a ∙ sym b
+
+pub verdict-verdict-from-result-refused-determined : (g : _) (l : _) (c : _) (h : _) (d : _) (κs : _) (x : _) (r s : _) → verdict-verdict-from-result-refused.Post g l c h d κs x r x → verdict-verdict-from-result-refused.Post g l c h d κs x s x → r ≡ s
+verdict-verdict-from-result-refused-determined g l c h d κs x r s a b = a ∙ sym b
+
+pub verdict-part-from-result-range-refused-determined : (κs : _) (x : _) (r s : _) → verdict-part-from-result-range-refused.Post κs x r x → verdict-part-from-result-range-refused.Post κs x s x → r ≡ s
+verdict-part-from-result-range-refused-determined κs x r s a b = a ∙ sym b
+
+pub label-label-from-array-determined : (κs : _) (x : _) (r s : _) → label-label-from-array.Post κs x r x → label-label-from-array.Post κs x s x → r ≡ s
+label-label-from-array-determined κs x r s a b = a ∙ sym b
+
+pub label-array-from-label-determined : (κs : _) (x : _) (r s : _) → label-array-from-label.Post κs x r x → label-array-from-label.Post κs x s x → r ≡ s
+label-array-from-label-determined κs x r s a b = a ∙ sym b
+
+pub typed-typed-from-refused-determined : (κs : _) (x : _) (r s : _) → typed-typed-from-refused.Post κs x r x → typed-typed-from-refused.Post κs x s x → r ≡ s
+typed-typed-from-refused-determined κs x r s a b = a ∙ sym b
+
+pub place-mode-try-from-u16-determined : (κs : _) (x : _) (r s : _) → place-mode-try-from-u16.Post κs x r x → place-mode-try-from-u16.Post κs x s x → r ≡ s
+place-mode-try-from-u16-determined κs x r s a b = mode-decoded _ r s a b
+
+pub place-outcome-try-from-u8-determined : (κs : _) (x : _) (r s : _) → place-outcome-try-from-u8.Post κs x r x → place-outcome-try-from-u8.Post κs x s x → r ≡ s
+place-outcome-try-from-u8-determined κs x r s a b = outcome-decoded _ r s a b
+
+pub exchange-address-partial-eq-determined : (κs : _) (x : _) (r s : _) → exchange-address-partial-eq.Post κs x r x → exchange-address-partial-eq.Post κs x s x → r ≡ s
+exchange-address-partial-eq-determined κs x r s a b = a ∙ sym b
+
+pub devices-array-from-part-key-determined : (κs : _) (x : _) (r s : _) → devices-array-from-part-key.Post κs x r x → devices-array-from-part-key.Post κs x s x → r ≡ s
+devices-array-from-part-key-determined κs x r s a b = a ∙ sym b
+
+pub devices-judgement-from-result-determined : (κs : _) (x : _) (r s : _) → devices-judgement-from-result.Post κs x r x → devices-judgement-from-result.Post κs x s x → r ≡ s
+devices-judgement-from-result-determined κs x r s a b = a ∙ sym b
+
+pub lines-row-line-deref-determined : (g : _) (l : _) (κs : _) (x : _) (r s : _) → lines-row-line-deref.Post g l κs x r x → lines-row-line-deref.Post g l κs x s x → r.now ≡ s.now
+lines-row-line-deref-determined g l κs x r s a b = a ∙ sym b
