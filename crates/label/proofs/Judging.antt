@@ -1,16 +1,17 @@
 -- The laws of a label's judgement: what six zeros are, what may stand, what is shown of it, and what differs from release 1.3.
 -- Assumes nothing.
 use Prim.Native.Nat.{ℕ}
-use mathlib.Core.Bool.{Bool, true, false, false≢true, ◌||◌, cond}
+use mathlib.Core.Bool.{Bool, true, false, false≢true, ◌&&◌, ◌||◌, cond}
 use mathlib.Core.List.{List}
-use mathlib.Core.Path.{◌≡◌, refl, sym, ap}
+use mathlib.Core.Path.{◌≡◌, refl, sym, ap, ◌∙◌}
 use borrow.Author.Tests.{eqb-true, eq-eqb}
 use lib.Dec.{eqb}
-use lib.ListN.{get_or}
+use lib.ListN.{get_or, take, drop}
+use Rattle.octets.specs.Numbers.{low_first}
 use Rattle.label.specs.declared.Label.{Label}
 use Rattle.label.specs.declared.Judgement.TheVariants.{Time, NoTime, Bad}
-use Rattle.label.specs.Times.{label_bytes, ranges, in_ranges, is_no_time, judged, allowed, time_of, judged_in13}
-use Rattle.label.proofs.Ranges.{no-time-zeros, no-time-out, no-day-out}
+use Rattle.label.specs.Times.{label_of, label_bytes, ranges, in_ranges, is_no_time, judged, allowed, time_of, judged_in13}
+use Rattle.label.proofs.Ranges.{no-time-zeros, no-time-out, no-day-out, by_two_numbers}
 
 module _ (l : Label) where
   -- six zeros, judged now and by the rule of release 1.3
@@ -58,3 +59,22 @@ module _ (l : Label) where
       either true b h e = refl
       either false true h e = absurd (false≢true (sym e))
       either false false h e = absurd (false≢true h)
+
+-- the label that six bytes stand for, r being whether it is in its ranges: one that is may stand, and another where the bytes are zero as two numbers
+module _ (s : List ℕ) (l : Label) (r : Bool) (read : l ≡ label_of s) (told : r ≡ in_ranges ranges (label_bytes l)) where
+  pub in_range_stands : r ≡ true → r ≡ allowed (judged (label_of s))
+  unfolding judged
+  in_range_stands t = t ∙ ap (λ (b : Bool). allowed (cond b Time (cond (is_no_time l) NoTime Bad))) (sym t ∙ told) ∙ ap (λ (x : Label). allowed (judged x)) read
+
+  pub zero_stands : (low high : ℕ) (z : Bool) → r ≡ false → low ≡ low_first (take 4 (drop 0 s)) → high ≡ low_first (take 2 (drop 4 s)) → z ≡ (eqb low 0 && eqb high 0)
+      → z ≡ allowed (judged (label_of s))
+  unfolding judged
+  zero_stands low high z f a b zero =
+      let out : in_ranges ranges (label_bytes (label_of s)) ≡ false = ap (λ (x : Label). in_ranges ranges (label_bytes x)) (sym read) ∙ sym told ∙ f in
+      zero ∙ by_two_numbers s low high a b ∙ either (is_no_time (label_of s)) ∙ ap (λ (t : Bool). allowed (cond t Time (cond (is_no_time (label_of s)) NoTime Bad))) (sym out)
+    where
+      either : (b : Bool) → b ≡ allowed (cond b NoTime Bad)
+      either true = refl
+      either false = refl
+
+pub ruleset standing = (in_range_stands, zero_stands)

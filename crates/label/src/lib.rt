@@ -1,7 +1,7 @@
 //! The time label: six bytes by value, and the judgement of one.
 #![tactic(auto)]
 
-ghost use Rattle.std.specs.Prelude.{◌≡◌, drop};
+ghost use Rattle.std.specs.Prelude.{◌≡◌, ◌&&◌, eqb, drop};
 ghost use Rattle.label.specs.Times.{label_of, label_bytes, ranges, in_ranges, is_no_time, judged, allowed, time_of, number_shown, shown_as};
 
 /// A time label, as its six bytes stand in a packet.
@@ -105,26 +105,29 @@ impl Label {
         }
     }
 
-    /// Whether each byte lies in its own range.
+    /// Whether each byte lies in its own range. Day and month are asked first: the compiler then begins with one test of the last four bytes,
+    /// and in most other orders tests each byte by itself.
     #[inline]
     #[tactic(auto, unfolding(crate::specs::Times::in_ranges))]
     fn is_in_range(self) -> bool
         ensures { result ≡ in_ranges ranges (label_bytes self) }
     {
-        matches!(self.second, 0..=59)
-            && matches!(self.minute, 0..=59)
-            && matches!(self.hour, 0..=23)
-            && matches!(self.day, 1..=31)
+        matches!(self.day, 1..=31)
             && matches!(self.month, 1..=12)
+            && matches!(self.hour, 0..=23)
             && matches!(self.year, 0..=99)
+            && matches!(self.second, 0..=59)
+            && matches!(self.minute, 0..=59)
     }
 
+    /// Whether the label is six zeros.
     #[inline]
-    #[tactic(auto, unfolding(crate::specs::Times::in_ranges))]
+    #[tactic(auto, using(crate::proofs::Ranges::zero_by_value))]
     fn is_zero(self) -> bool
         ensures { result ≡ is_no_time self }
     {
-        self == Label::default()
+        let bytes = self.bytes();
+        are_zero(octets::four_at(&bytes, 0), octets::two_at(&bytes, 4))
     }
 
     /// Whether the label may stand: what TIME asks.
@@ -135,12 +138,13 @@ impl Label {
         self.judge() != Judgement::Bad
     }
 
-    /// The same of the first six bytes.
+    /// The same of the first six bytes, which are read again where they are no time: in a loop over labels a time then costs no more.
     #[inline]
+    #[tactic(auto, using(crate::proofs::Judging::standing))]
     pub fn stands_in(s: &[u8]) -> bool
         ensures { result ≡ allowed (judged (label_of s.now)) }
     {
-        Label::read_at(s, 0).is_allowed()
+        Label::read_at(s, 0).is_in_range() || are_zero(octets::four_at(s, 0), octets::two_at(s, 4))
     }
 
     /// What a reading shows of a label that may stand: a time has a day.
@@ -155,4 +159,12 @@ impl Label {
             Shown::Time
         }
     }
+}
+
+/// Whether six bytes, as two numbers, are zero.
+#[inline]
+fn are_zero(low: u32, high: u16) -> bool
+    ensures { result ≡ (eqb low 0 && eqb high 0) }
+{
+    low == 0 && high == 0
 }
