@@ -179,7 +179,7 @@ pub fields-of-determined : (κs : _) (x : _) (r s : _) → fields-of.Post κs x 
 fields-of-determined κs x r s a b = a ∙ sym b
 
 pub unit-judge-determined : (κs : _) (x : _) (r s : _) → unit-judge.Post κs x r x → unit-judge.Post κs x s x → r ≡ s
-unit-judge-determined κs x r s a b = told-determined _ _ r s a.0 a.1 b.0 b.1
+unit-judge-determined κs x r s a b = told-determined _ _ r s a.0 a.1.0 b.0 b.1.0
 
 pub unit-place-in-determined : (κs : _) (x : _) (r s : _) → unit-place-in.Post κs x r x → unit-place-in.Post κs x s x → r ≡ s
 unit-place-in-determined κs x r s a b = placed-determined _ r s a b

@@ -1,4 +1,3 @@
-pub mod Chunks
 pub mod Searching
 pub mod Walks
 pub mod Sizes
