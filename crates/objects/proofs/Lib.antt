@@ -1,4 +1,5 @@
 pub mod Placed
+pub mod Described
 pub mod Kept
 pub mod Promises
 pub mod Reread
