@@ -75,13 +75,13 @@ fn head_bytes(header: Header, length: usize) -> [u8; 27]
     ensures { result ≡ head_bytes header length }
 {
     let mut head: [u8; 27] = [64; 27];
-    head[2..4].copy_from_slice(&header.serial.to_le_bytes());
+    head[2..4].copy_from_slice(&octets::two_bytes(header.serial));
     head[4] = 1;
     head[5] = header.version;
     head[6..12].copy_from_slice(&header.label.bytes());
     head[12..18].copy_from_slice(&header.source);
     head[18..24].copy_from_slice(&header.destination);
-    head[24..26].copy_from_slice(&(length as u16).to_le_bytes());
+    head[24..26].copy_from_slice(&octets::two_bytes(length as u16));
     head[26] = header.command;
     head
 }
