@@ -329,5 +329,7 @@ pub extern "C" fn trawnosz_release(out: &mut [u8]) -> Part
     ensures value { result ≡ front_part release out.old }
     ensures out_after { out.new ≡ put_at out.old 0 release }
 {
-    Part::from(naming::write_front(&RELEASE, out))
+    // By way of a copy, which no lent row can overlap.
+    let release = RELEASE;
+    Part::from(naming::write_front(&release, out))
 }
