@@ -7,7 +7,7 @@ use mathlib.Core.Path.{◌≡◌, refl, sym, ap, subst⁻¹, ◌∙◌}
 use mir.Syntax.{w64}
 use mir.Val.{Fits}
 use lib.ListN.{set, replicate}
-use Rattle.std.specs.Prelude.{Option, Some, None, Result, Ok, Err, is_some, IfOk, MatchResult, ok_or, ⊤}
+use Rattle.std.specs.Prelude.{Some, None, Result, Ok, Err, is_some, IfOk, MatchResult, ⊤}
 use Rattle.std.specs.Result.{IsErrAnd}
 use Rattle.octets.specs.Searches.{first_fit, same}
 use Rattle.octets.proofs.Flags.{by-test}
@@ -18,7 +18,7 @@ use Rattle.packet.specs.declared.Header.{Header}
 use Rattle.verdict.specs.declared.Verdict.{Verdict}
 use Rattle.verdict.specs.Refusals.{STATE, FULL, STRAY, CENTRE}
 use Rattle.verdict.specs.declared.Refused.{Refused}
-use Rattle.verdict.specs.declared.Refusal.TheVariants.{State, Setting}
+use Rattle.verdict.specs.declared.Refusal.TheVariants.{Setting}
 use Rattle.verdict.specs.Orders.{good, refusal, is_good, told, refused_at}
 use Rattle.place.specs.declared.Place.{Place}
 use Rattle.place.specs.declared.Reply.{Reply}
@@ -37,7 +37,7 @@ use Rattle.exchange.specs.declared.Begun.{Begun}
 use Rattle.exchange.specs.declared.Made.{Made}
 use Rattle.exchange.specs.declared.Replied.{Replied}
 use Rattle.exchange.specs.Begins.{headed_by, mode_of, begun_verdict, unbegun, begun, begun_output}
-use Rattle.exchange.specs.Table.{address_at, next_at, centre_of, settled, legal, blank, made, Found, found_as, no_opening, no_fitting, unfound, found, entered, placed, stepped, untold, answered, unticked, ticked_by, swept_as, ticking}
+use Rattle.exchange.specs.Table.{address_at, next_at, centre_of, settled, legal, blank, made, Found, found_as, no_opening, no_fitting, unfound, found, entered, placed, stepped, untold, answered, unticked, ticked_by, ticking}
 use Rattle.exchange.proofs.Answers.{made-refused, made-good, found-state, found-outside, found-full, found-good}
 use Rattle.exchange.proofs.Answers.{answered-state, answered-outside, answered-stray, answered-good, answered-ways, ticking-state, ticking-by, sweeps}
 use Rattle.exchange.proofs.Begins.{draft-judged, find-decides, draft-decides, taken_by_lem, begun-refused, output-kept, opening-at, begun-good, output-written, begun-few}
@@ -133,97 +133,64 @@ module _ (x : Exchanges) (o : Bool) (r : o ≡ settled x.timeout x.resends (addr
     abbrev whole : Replied
     whole = answered x a s w
 
-    pub reach-unset : o ≡ false → refusal STATE 0 ≡ whole.verdict
-    reach-unset n = sym (ap (λ (y : Replied). y.verdict) (answered-state x a s w (unsettled n)))
+    pub reach-unset : o ≡ false → untold x (refusal STATE 0) ≡ whole
+    reach-unset n = sym (answered-state x a s w (unsettled n))
 
     module _ (n : o ≡ true) (f : Result (ℕ × ℕ) Unfound) (c : ℕ) (its : c ≡ centre_of x a) (asked : f ≡ reached x.timeout x.resends x.places c s w) where
       own : f ≡ reached x.timeout x.resends x.places (centre_of x a) s w
       own = asked ∙ ap (λ (d : ℕ). reached x.timeout x.resends x.places d s w) its
 
-      reach-broken : f ≡ Err Broken → refusal STATE 0 ≡ whole.verdict
-      reach-broken q =
-          sym (ap (λ (y : Replied). y.verdict)
-          (answered-state x a s w (legal-as n false (is-broken x.timeout x.resends x.places (centre_of x a) _ _ (sym q ∙ own)))))
+      reach-broken : f ≡ Err Broken → untold x (refusal STATE 0) ≡ whole
+      reach-broken q = sym (answered-state x a s w (legal-as n false (is-broken x.timeout x.resends x.places (centre_of x a) _ _ (sym q ∙ own))))
 
-      reach-outside : f ≡ Err Outside → refusal STRAY 0 ≡ whole.verdict
+      reach-outside : f ≡ Err Outside → untold x (refusal STRAY 0) ≡ whole
       reach-outside q =
           let is = is-outside x.timeout x.resends x.places (centre_of x a) _ _ (sym q ∙ own) in
-          sym (ap (λ (y : Replied). y.verdict) (answered-outside x a s w (legal-as n true is.0) is.1))
+          sym (answered-outside x a s w (legal-as n true is.0) is.1)
 
-      reach-stray : f ≡ Err Nothing → refusal STRAY 0 ≡ whole.verdict
+      reach-stray : f ≡ Err Nothing → untold x (refusal STRAY 0) ≡ whole
       reach-stray q =
           let is = is-nothing x.timeout x.resends x.places (centre_of x a) _ _ (sym q ∙ own) in
-          sym (ap (λ (y : Replied). y.verdict) (answered-stray x a s w (legal-as n true is.0) is.1 is.2))
+          sym (answered-stray x a s w (legal-as n true is.0) is.1 is.2)
 
-      module _ (k z : ℕ) (q : f ≡ Ok (k, z)) where
-        reach-so : (k < 16) × (whole ≡ stepped x k w)
-        reach-so =
-            let at = is_at x.timeout x.resends x.places (centre_of x a) _ _ k z (sym q ∙ own) in
-            (omega (arith, at.1, at.2, at.3), answered-good x a s w (legal-as n true at.0) at.1 at.2 ∙ ap (λ (j : ℕ). stepped x j w) (sym at.3))
-
-        reach-good : good ≡ whole.verdict
-        reach-good = sym (ap (λ (y : Replied). y.verdict) reach-so.1)
-
-        reach-place : (k ≡ whole.place) × (k < 16)
-        reach-place = (sym (ap (λ (y : Replied). y.place) reach-so.1), reach-so.0)
-
-      reach-err : (u : Unfound) → f ≡ Err u → told {A = ℕ × ℕ} (Err (no_fitting u)) ≡ whole.verdict
+      pub reach-err : (u : Unfound) → f ≡ Err u → untold x (told {A = ℕ × ℕ} (Err (no_fitting u))) ≡ whole
       reach-err Broken = reach-broken
       reach-err Outside = reach-outside
       reach-err Nothing = reach-stray
 
-      pub reach-by : (y : Result (ℕ × ℕ) Refused) → Turned no_fitting f y → told y ≡ whole.verdict
-      reach-by y t = by_way f y refl t.cases
-        where
-          by_way : (z : Result (ℕ × ℕ) Unfound) (y : Result (ℕ × ℕ) Refused) → f ≡ z → TurnedBy no_fitting z y → told y ≡ whole.verdict
-          by_way (Ok at) y p e = ap told e ∙ reach-good at.0 at.1 p
-          by_way (Err u) (Err d) p e = ap (λ (b : Refused). told {A = ℕ × ℕ} (Err b)) e ∙ reach-err u p
-          by_way (Err u) (Ok at) p e = absurd e
-
-      pub reach-place-by : (y : Result (ℕ × ℕ) Refused) → Turned no_fitting f y → IfOk y (λ at. (at.0 ≡ whole.place) × (at.0 < 16))
-      reach-place-by y t = by_way f y refl t.cases
-        where
-          by_way : (z : Result (ℕ × ℕ) Unfound) (y : Result (ℕ × ℕ) Refused) → f ≡ z → TurnedBy no_fitting z y → IfOk y (λ at. (at.0 ≡ whole.place) × (at.0 < 16))
-          by_way (Ok at) y p e = subst⁻¹ (λ (b : Result (ℕ × ℕ) Refused). IfOk b (λ at. (at.0 ≡ whole.place) × (at.0 < 16))) e (reach-place at.0 at.1 p)
-          by_way (Err u) (Err d) p e = tt
-          by_way (Err u) (Ok at) p e = absurd e
+      pub reach-ok : (k z : ℕ) → f ≡ Ok (k, z) → (k < 16) × (stepped x k w ≡ whole)
+      reach-ok k z q =
+          let at = is_at x.timeout x.resends x.places (centre_of x a) _ _ k z (sym q ∙ own) in (
+            omega (arith, at.1, at.2, at.3),
+            ap (λ (j : ℕ). stepped x j w) at.3 ∙ sym (answered-good x a s w (legal-as n true at.0) at.1 at.2),
+          )
 
   -- the tick: all is what the places told
   pub tick-unset : o ≡ false → unticked x (refusal STATE 0) ≡ ticking x
   tick-unset n = sym (ticking-state x (unsettled n))
 
-  module _ (n : o ≡ true) (all : Option Swept) (asked : all ≡ swept x.timeout x.resends x.places) where
-    unsound : all ≡ None → all_sound x.timeout x.resends x.places ≡ false
-    unsound p =
+  -- b is whether the places keep the rules, s what was swept
+  module _ (n : o ≡ true) (b : Bool) (s : Swept) (asked : swept x.timeout x.resends x.places ≡ cond b (Some s) None) where
+    sound_as : (g : Bool) → b ≡ g → all_sound x.timeout x.resends x.places ≡ g
+    sound_as g e =
         by-test (all_sound x.timeout x.resends x.places)
-        (λ t. absurd (false≢true (ap is_some (sym p ∙ asked ∙ sweeps x true t))))
-        (λ e. e)
-
-    tick-broken : all ≡ None → unticked x (refusal STATE 0) ≡ ticking x
-    tick-broken p = sym (ticking-state x (legal-as n false (unsound p)))
-
-    tick-good : (s : Swept) → all ≡ Some s → ticked_by x good (Some s) ≡ ticking x
-    tick-good s p =
-        by-test (all_sound x.timeout x.resends x.places)
-        (λ t. ap (ticked_by x good) (sym p ∙ asked) ∙ sym (ticking-by x (legal-as n true t)))
-        (λ e. absurd (false≢true (ap is_some (sym (sweeps x false e) ∙ sym asked ∙ p))))
-
-    pub tick-by : (y : Result Swept Refused) (d : Refused) → y ≡ ok_or all d → d ≡ refused_at State 0 → swept_as x y ≡ ticking x
-    tick-by y d e is = ap (swept_as x) (e ∙ ap (ok_or all) is) ∙ by_way all refl
+        (λ t. t ∙ ap is_some (sym (sweeps x true t) ∙ asked) ∙ has b ∙ e)
+        (λ t. t ∙ ap is_some (sym (sweeps x false t) ∙ asked) ∙ has b ∙ e)
       where
-        by_way : (z : Option Swept) → all ≡ z → swept_as x (ok_or z (refused_at State 0)) ≡ ticking x
-        by_way None p = tick-broken p
-        by_way (Some s) p = tick-good s p
+        has : (g : Bool) → is_some (cond g (Some s) None) ≡ g
+        has true = refl
+        has false = refl
+
+    pub tick-broken : b ≡ false → unticked x (refusal STATE 0) ≡ ticking x
+    tick-broken e = sym (ticking-state x (legal-as n false (sound_as false e)))
+
+    pub tick-good : b ≡ true → ticked_by x good (Some s) ≡ ticking x
+    tick-good e =
+        ap (ticked_by x good) (sym (asked ∙ ap (λ (g : Bool). cond g (Some s) None) e)) ∙ sym (ticking-by x (legal-as n true (sound_as true e)))
 
 -- a reply by what was told before its step
 module _ (x : Exchanges) (a : List ℕ) (s : ℕ) (w : Reply) where
-  pub reply-refused : (v : Verdict) → is_good v ≡ false → v ≡ (answered x a s w).verdict → untold x v ≡ answered x a s w
-  reply-refused v n e =
-      ap (untold x) e
-      ∙ answered-ways x a s w (λ y. is_good y.verdict ≡ false → untold x y.verdict ≡ y) (λ b. refl) (λ b. refl) (λ k h b. absurd (false≢true (sym b)))
-      (ap is_good (sym e) ∙ n)
-
-  pub reply-made : (v : Verdict) (k o r : ℕ) (step : OfEnum) (ps : List Place) → v ≡ good → v ≡ (answered x a s w).verdict → k ≡ (answered x a s w).place
+  reply-made : (v : Verdict) (k o r : ℕ) (step : OfEnum) (ps : List Place) → v ≡ good → v ≡ (answered x a s w).verdict → k ≡ (answered x a s w).place
       → in_numbers step ≡ replied r w (place_at x.places k) → r ≡ x.resends → ps ≡ set x.places k step.place → o ≡ number_of step.outcome
       → ◌≡◌ {A = Replied} (record { verdict = v; place = k; outcome = o; state = placed x ps }) (answered x a s w)
   reply-made v k o r step ps g e here d most q told =
@@ -237,6 +204,30 @@ module _ (x : Exchanges) (a : List ℕ) (s : ℕ) (w : Reply) where
       ∙ ap (λ (j : ℕ). stepped x j w) here
       ∙ answered-ways x a s w (λ y. is_good y.verdict ≡ true → stepped x y.place w ≡ y) (λ b. absurd (false≢true b)) (λ b. absurd (false≢true b)) (λ k h b. refl)
       (ap is_good (sym e ∙ g))
+
+  -- n is the number of its refusal, k its place
+  module _ (n k : ℕ) (e : n ≡ (answered x a s w).verdict.number) (here : k ≡ (answered x a s w).place) where
+    abbrev its : Verdict
+    its = record { number = n; place = 0 }
+
+    its-verdict : its ≡ (answered x a s w).verdict
+    its-verdict =
+        ap (λ (m : ℕ). record { number = m; place = 0 }) e
+        ∙ answered-ways x a s w (λ y. ◌≡◌ {A = Verdict} (record { number = y.verdict.number; place = 0 }) y.verdict) refl refl (λ j h. refl)
+
+    pub reply-refused : (n ≡ 0 → ⊥) → ◌≡◌ {A = Replied} (record { verdict = its; place = k; outcome = 0; state = placed x x.places }) (answered x a s w)
+    reply-refused m =
+        (λ i. record { verdict = its-verdict i; place = here i; outcome = 0; state = x })
+        ∙ answered-ways x a s w
+        (λ y. (y.verdict.number ≡ 0 → ⊥) → ◌≡◌ {A = Replied} (record { verdict = y.verdict; place = y.place; outcome = 0; state = x }) y)
+        (λ b. refl) (λ b. refl) (λ j h b. absurd (b refl))
+        (λ z. m (e ∙ z))
+
+    pub reply-stepped : n ≡ 0 → (o : ℕ) (step : OfEnum) (ps : List Place) → in_numbers step ≡ replied x.resends w (place_at x.places k)
+        → ps ≡ set x.places k step.place → o ≡ number_of step.outcome
+        → ◌≡◌ {A = Replied} (record { verdict = its; place = k; outcome = o; state = placed x ps }) (answered x a s w)
+    reply-stepped z o step ps d q told =
+        reply-made its k o x.resends step ps (ap (λ (m : ℕ). record { number = m; place = 0 }) z) its-verdict here d refl q told
 
 -- the command that the packet writer is handed, m being the number of the mode that the draft's opens
 module _ (c m n : ℕ) (o : Bool) (mode : m ≡ mode_of c) (its : n ≡ m) (open_now : o ≡ is_open n) where

@@ -159,8 +159,3 @@ unfoldable pub ticking : Exchanges → Ticked
 ticking x =
     let v = in_order ((legal x or_else STATE) ∷ []) good in
     cond (is_good v) (ticked_by x v (swept x.timeout x.resends x.places)) (unticked x v)
-
--- the same of an answer: what was swept, or the refusal
-abbrev pub swept_as : Exchanges → Result Swept Refused → Ticked
-swept_as x (Ok all) = ticked_by x good (Some all)
-swept_as x (Err e) = unticked x (refusal (number_of e.refusal) e.place)

@@ -1,19 +1,20 @@
 //! The exchange table: beginning an exchange and writing its packet, a reply to one, and the tick.
 #![tactic(auto)]
 
-ghost use Rattle.std.specs.Prelude.{◌≡◌, cond, ◌+◌, ◌*◌, ◌≤◌, ◌<◌, IfOk, IfSome};
+ghost use Rattle.std.specs.Prelude.{◌≡◌, cond, ◌+◌, ◌*◌, ◌≤◌, ◌<◌, IfOk};
 ghost use Rattle.kinds.specs.Table.{rows};
 ghost use Rattle.place.specs.Modes.{number_of};
 ghost use Rattle.place.specs.Rules.{is_open};
-ghost use Rattle.verdict.specs.Orders.{told};
+ghost use Rattle.verdict.specs.Orders.{refusal};
+ghost use Rattle.verdict.specs.Refusals.{STATE, number_of as refusal_number};
 ghost use Rattle.exchange.specs.Addresses.{same_address, equal, partly_equal};
-ghost use Rattle.exchange.specs.Table.{settled, centre_of, address_at, next_at, made, blank, found, found_as, no_opening, no_fitting, entered, answered, untold, swept_as, ticking};
+ghost use Rattle.exchange.specs.Table.{settled, centre_of, centre_at, address_at, next_at, made, blank, found, found_as, no_opening, no_fitting, entered, placed, answered, untold, unticked, ticking};
 ghost use Rattle.exchange.specs.Begins.{headed_by, mode_of, unbegun, begun, begun_output};
 
 use label::Label;
 use packet::Header;
 use place::{Mode, Outcome, Place, Reply};
-use places::{Report, Swept, Unfound};
+use places::{Report, Unfound};
 use verdict::{Refusal, Refused, Verdict, ensure};
 
 /// The address of a monitoring centre.
@@ -57,6 +58,14 @@ pub struct Draft {
 pub struct Made {
     pub verdict: Verdict,
     pub state: Exchanges,
+}
+
+/// A reply before its step: the number of its refusal, 0 for none, and the place that it fits.
+// Two numbers, which come back in registers: as a Result, which comes through memory, a reply at a half table takes 445 instructions in place of 418.
+#[derive(Clone, Copy)]
+struct Reached {
+    number: u8,
+    place: usize,
 }
 
 /// The place that was opened, the length of the packet that was written, and its serial.
@@ -125,7 +134,8 @@ impl Exchanges {
         let Ok((place, serial)) = found else {
             return self.unbegun(found.into());
         };
-        let destination = self.centres[named].address;
+        let own = self.centre(named);
+        let destination = own.address;
         let header = draft.header(destination, serial, opening_by(draft.command));
         if let Err(refused) = output::write(out, header, length) {
             return self.unbegun(refused.into());
@@ -140,25 +150,32 @@ impl Exchanges {
     }
 
     /// The step of the exchange that a reply fits, of the centre that has its source address, STRAY where it fits none.
+    // The search is a call and the step in each export; one way out, so that the table is copied once.
+    #[inline(always)]
     pub fn reply(self, source: Address, serial: u16, reply: Reply) -> Replied
         ensures { result ≡ answered self source.bytes serial reply }
     {
         let reached = self.reach(source, serial, reply);
-        let Ok((place, _)) = reached else {
-            return self.untold(reached.into());
-        };
-        let step = self.places[place].replied(reply, self.resends);
         let mut places = self.places;
-        places[place] = step.place;
+        let mut outcome = u16::from(Outcome::Nothing.number());
+        if reached.number == 0 {
+            let step = places[reached.place].replied(reply, self.resends);
+            places[reached.place] = step.place;
+            outcome = u16::from(step.outcome.number());
+        }
         Replied {
-            verdict: reached.into(),
-            place,
-            outcome: u16::from(step.outcome.number()),
-            state: Exchanges { places, ..self },
+            verdict: Verdict {
+                number: reached.number,
+                place: 0,
+            },
+            place: reached.place,
+            outcome,
+            state: self.with(places),
         }
     }
 
     /// Nothing told under a verdict, and the table as it came.
+    #[inline(always)]
     pub fn untold(self, verdict: Verdict) -> Replied
         ensures { result ≡ untold self verdict }
     {
@@ -171,39 +188,75 @@ impl Exchanges {
     }
 
     /// The step of every place, each with its report.
+    #[inline(always)]
     pub fn tick(self) -> Ticked
         ensures { result ≡ ticking self }
     {
-        let swept = self.sweep();
-        let Ok(all) = swept else {
-            return Ticked {
-                verdict: swept.into(),
-                reports: [Report::default(); 16],
-                state: self,
-            };
+        if !self.is_settled() {
+            return self.unticked();
+        }
+        let Some(swept) = places::tick_all(self.places, self.timeout, self.resends) else {
+            return self.unticked();
         };
-        let places = all.places;
-        let reports = all.reports;
+        let places = swept.places;
+        let reports = swept.reports;
         Ticked {
-            verdict: swept.into(),
+            verdict: Verdict::good(),
             reports,
-            state: Exchanges { places, ..self },
+            state: self.with(places),
+        }
+    }
+
+    /// A tick that was refused.
+    #[inline(always)]
+    fn unticked(self) -> Ticked
+        ensures { result ≡ unticked self (refusal STATE 0) }
+    {
+        Ticked {
+            verdict: Verdict::from(Refusal::State.at(0)),
+            reports: [Report::default(); 16],
+            state: self,
+        }
+    }
+
+    /// The table with other places.
+    // The centres one by one, so that the compiler keeps them apart from the places.
+    #[inline(always)]
+    fn with(self, places: [Place; 16]) -> Exchanges
+        ensures { result ≡ placed self places }
+    {
+        let first = self.centres[0];
+        let second = self.centres[1];
+        Exchanges {
+            places,
+            centres: [first, second],
+            ..self
         }
     }
 
     /// Whether settings and addresses keep the state's rules.
+    #[inline(always)]
     fn is_settled(self) -> bool
         ensures { result ≡ settled self.timeout self.resends (address_at self 0) (address_at self 1) }
     {
-        is_settled(
-            self.timeout,
-            self.resends,
-            self.centres[0].address,
-            self.centres[1].address,
-        )
+        let first = self.centres[0];
+        let second = self.centres[1];
+        is_settled(self.timeout, self.resends, first.address, second.address)
+    }
+
+    /// A centre by its number.
+    // Copied whole, so that the compiler keeps the table's centres apart from its places.
+    #[inline(always)]
+    fn centre(self, centre: usize) -> Centre
+        requires { centre < 2 }
+        ensures { result ≡ centre_at self centre }
+    {
+        let centres = self.centres;
+        centres[centre]
     }
 
     /// The place and serial that a beginning for a centre would take.
+    #[inline(always)]
     fn find(self, centre: usize) -> Result<(usize, u16), Refused>
         ensures value { found_as result ≡ found self centre }
         ensures inside { IfOk result (λ at. (centre < 2) × (at.0 < 16)) }
@@ -216,17 +269,20 @@ impl Exchanges {
     }
 
     /// The serial to try first for a centre, which is asked only where there is such a centre.
+    #[inline(always)]
     fn next_of(self, centre: usize) -> u16
         ensures { centre < 2 → result ≡ next_at self centre }
     {
         if centre < Exchanges::CENTRES {
-            self.centres[centre].next
+            let own = self.centre(centre);
+            own.next
         } else {
             0
         }
     }
 
     /// The table with an exchange entered at a place of a centre.
+    #[inline(always)]
     fn enter(self, centre: usize, place: usize, serial: u16, mode: Mode) -> Exchanges
         requires centre_bound { centre < 2 }
         requires place_bound { place < 16 }
@@ -239,7 +295,11 @@ impl Exchanges {
             ..Place::free()
         };
         let mut centres = self.centres;
-        centres[centre].next = places::after(serial);
+        let own = self.centre(centre);
+        centres[centre] = Centre {
+            next: places::after(serial),
+            ..own
+        };
         Exchanges {
             places,
             centres,
@@ -248,6 +308,7 @@ impl Exchanges {
     }
 
     /// A beginning that was refused.
+    #[inline(always)]
     fn unbegun(self, verdict: Verdict) -> Begun
         ensures { result ≡ unbegun self verdict }
     {
@@ -260,44 +321,46 @@ impl Exchanges {
         }
     }
 
-    /// The place that a reply fits, with its serial.
-    fn reach(self, source: Address, serial: u16, reply: Reply) -> Result<(usize, u16), Refused>
-        ensures verdict { told result ≡ (answered self source.bytes serial reply).verdict }
-        ensures place { IfOk result (λ at. (at.0 ≡ (answered self source.bytes serial reply).place) × (at.0 < 16)) }
+    /// The place that a reply fits, or why it fits none.
+    #[inline(never)]
+    fn reach(self, source: Address, serial: u16, reply: Reply) -> Reached
+        ensures number { result.number ≡ (answered self source.bytes serial reply).verdict.number }
+        ensures place { result.place ≡ (answered self source.bytes serial reply).place }
+        ensures inside { result.place < 16 }
     {
-        ensure(self.is_settled(), Refusal::State)?;
+        if !self.is_settled() {
+            return unreached(Refusal::State.at(0));
+        }
         let centre = self.centre_of(source);
-        places::find_fitting(
+        let fitting = places::find_fitting(
             self.places,
             centre,
             self.timeout,
             self.resends,
             serial,
             reply,
-        )
-        .map_err(no_fitting)
+        );
+        match fitting {
+            Ok((place, _)) => Reached { number: 0, place },
+            Err(unfound) => unreached(no_fitting(unfound)),
+        }
     }
 
     /// The centre that has an address, 2 where neither has it.
+    #[inline(always)]
     #[tactic(auto, using(crate::proofs::Calls::placing))]
     fn centre_of(self, address: Address) -> usize
         ensures { result ≡ centre_of self address.bytes }
     {
-        if self.centres[0].address == address {
+        let first = self.centres[0];
+        let second = self.centres[1];
+        if first.address == address {
             0
-        } else if self.centres[1].address == address {
+        } else if second.address == address {
             1
         } else {
             Exchanges::CENTRES
         }
-    }
-
-    /// What a tick makes of the places and tells of them, in a table that keeps the state's rules.
-    fn sweep(self) -> Result<Swept, Refused>
-        ensures { swept_as self result ≡ ticking self }
-    {
-        ensure(self.is_settled(), Refusal::State)?;
-        places::tick_all(self.places, self.timeout, self.resends).ok_or(Refusal::State.at(0))
     }
 }
 
@@ -358,6 +421,7 @@ fn opening_by(command: u8) -> u8
 }
 
 /// Why a beginning finds no place.
+#[inline]
 fn no_opening(unfound: Unfound) -> Refused
     ensures { result ≡ no_opening unfound }
 {
@@ -369,12 +433,24 @@ fn no_opening(unfound: Unfound) -> Refused
 }
 
 /// Why a reply fits no place.
+#[inline]
 fn no_fitting(unfound: Unfound) -> Refused
     ensures { result ≡ no_fitting unfound }
 {
     match unfound {
         Unfound::Broken => Refusal::State.at(0),
         Unfound::Outside | Unfound::Nothing => Refusal::Stray.at(0),
+    }
+}
+
+/// A reply that reaches no place.
+#[inline]
+fn unreached(refused: Refused) -> Reached
+    ensures { result ≡ record { number = refusal_number refused.refusal; place = 0 } }
+{
+    Reached {
+        number: refused.refusal.number(),
+        place: 0,
     }
 }
 

@@ -160,17 +160,17 @@ module _ (t r : ℕ) (ps : List Place) where
               single = one_more (λ j. double_at ps (end_of (owner_of j)) j ≡ false) i below (sym double-is ∙ f) s.single;
             }
 
-        pub gather-double : b ≡ true → Gathered t r ps (Err Broken)
-        gather-double e = record { rows = (refl, sym (one-double e)) }
+        pub gather-double : (new : List ℕ) → b ≡ true → Gathered t r ps (Err Broken) new
+        gather-double new e = record { rows = (refl, sym (one-double e)) }
 
-        pub sweep-double : b ≡ true → None ≡ swept t r ps
+        pub sweep-double : b ≡ true → swept t r ps ≡ None
         unfolding swept
         sweep-double e = simp (sym (one-double e))
 
-      pub gather-breaks : not k ≡ true → Gathered t r ps (Err Broken)
-      gather-breaks m = record { rows = (refl, sym (one-breaks m)) }
+      pub gather-breaks : (new : List ℕ) → not k ≡ true → Gathered t r ps (Err Broken) new
+      gather-breaks new m = record { rows = (refl, sym (one-breaks m)) }
 
-      pub sweep-breaks : not k ≡ true → None ≡ swept t r ps
+      pub sweep-breaks : not k ≡ true → swept t r ps ≡ None
       unfolding swept
       sweep-breaks m = simp (sym (one-breaks m))
 
@@ -182,7 +182,7 @@ module _ (t r : ℕ) (ps : List Place) where
     pub all_held : Held row ps 0
     all_held = let end : i ≡ 0 = omega arith in subst (Held row ps) end s.held
 
-    pub gathered : Gathered t r ps (Ok row)
+    pub gathered : Gathered t r ps (Ok tt) row
     gathered = record { rows = (looked-sound, s.long, all_held) }
 
 pub ruleset looking = (looked-free, gather-breaks, gather-double, looked-open, gathered)

@@ -1,5 +1,5 @@
 -- The tick's loop: the places from i on have taken their step and are reported. Assumes nothing.
-use Prim.Native.Nat.{ℕ, suc, ◌-◌, ◌≤◌, ◌<◌}
+use Prim.Native.Nat.{ℕ, suc, ◌+◌, ◌-◌, ◌≤◌, ◌<◌}
 use native.Mathlib.Omega.{arith}
 use mathlib.Core.Bool.{Bool, true, ◌&&◌, and-eq-true_iff}
 use mathlib.Core.List.{List}
@@ -10,10 +10,12 @@ use lib.ListN.{length, get_or, set, replicate, get_or-replicate}
 use Rattle.octets.proofs.Fill.{filled_from, fill_none, fill-all, fill-turn, fill_on}
 use Rattle.place.specs.declared.Place.{Place}
 use Rattle.place.specs.declared.Step.{Step as OfEnum}
+use Rattle.place.specs.declared.Outcome.TheVariants.{Nothing}
 use Rattle.place.specs.Outcomes.{number_of, in_numbers}
 use Rattle.std.specs.Prelude.{Option, Some}
-use Rattle.place.specs.Rules.{free, is_zero}
-use Rattle.place.specs.Steps.{Step, ticked}
+use Rattle.place.specs.Rules.{free, is_open, is_zero}
+use Rattle.place.specs.Steps.{NOTHING, Step, one_older, denied, ticked}
+use Rattle.place.proofs.Answers.{older, run_out}
 use Rattle.place.proofs.Kept.{zero-free}
 use Rattle.place.proofs.Lives.{ticked-free}
 use Rattle.places.specs.declared.Report.{Report}
@@ -49,21 +51,31 @@ module _ (t r : ℕ) (ps : List Place) (long : length ps ≡ 16) where
     up : i ≡ suc (i - 1)
     up = omega arith
 
-    -- an open one, which stands at k: x is its outcome's number, y its serial
-    pub open-swept : (step : OfEnum) (k l x y : ℕ) → in_numbers step ≡ ticked t r p → k ≡ i - 1 → l ≡ i - 1 → x ≡ number_of step.outcome → y ≡ p.serial
-        → SweptTo t r ps (set now k step.place) (set reports l (record { outcome = x; serial = y })) (i - 1)
-    open-swept step k l x y e here there is own =
+    -- an open one: y is what is told of it
+    open-swept : (step : OfEnum) (y : Report) → in_numbers step ≡ ticked t r p → y ≡ record { outcome = number_of step.outcome; serial = p.serial }
+        → SweptTo t r ps (set now (i - 1) step.place) (set reports (i - 1) y) (i - 1)
+    open-swept step y e is =
         let of : ℕ → Report = λ o. record { outcome = o; serial = p.serial } in
         record {
           stepped =
-              ap (λ (n : ℕ). set now n step.place) here
-              ∙ (λ j. set ((s.stepped ∙ ap (filled_from (aged t r) ps ps) up) j) (i - 1) (e j).place)
+              (λ j. set ((s.stepped ∙ ap (filled_from (aged t r) ps ps) up) j) (i - 1) (e j).place)
               ∙ fill-turn (aged t r) ps ps (i - 1) free refl (omega arith);
           told =
-              (λ j. set reports (there j) (record { outcome = is j; serial = own j }))
+              ap (set reports (i - 1)) is
               ∙ (λ j. set ((s.told ∙ ap (filled_from (report t r) (replicate 16 nothing) ps) up) j) (i - 1) (of (e j).outcome))
               ∙ fill-turn (report t r) (replicate 16 nothing) ps (i - 1) free (sym long) (omega arith);
         }
+
+    module _ (open_now : is_open p.mode ≡ true) (y : Report) where
+      -- one that gets older
+      pub young-swept : p.age + 1 < t → y ≡ record { outcome = NOTHING; serial = p.serial }
+          → SweptTo t r ps (set now (i - 1) (one_older p)) (set reports (i - 1) y) (i - 1)
+      young-swept h is = open-swept (record { place = one_older p; outcome = Nothing }) y (older p true (sym open_now) t r refl h) is
+
+      -- one whose age comes to the timeout
+      pub old-swept : (step : OfEnum) → t ≤ p.age + 1 → in_numbers step ≡ denied r p → y ≡ record { outcome = number_of step.outcome; serial = p.serial }
+          → SweptTo t r ps (set now (i - 1) step.place) (set reports (i - 1) y) (i - 1)
+      old-swept step h e is = open-swept step y (run_out p true (sym open_now) t r (in_numbers step) refl h e) is
 
     unserial : is_zero p ≡ true → p.serial ≡ 0
     unfolding is_zero
@@ -91,12 +103,12 @@ module _ (t r : ℕ) (ps : List Place) (long : length ps ≡ 16) where
         }
 
   pub all-swept : (row : List ℕ) (now : List Place) (reports : List Report) (i : ℕ) → i ≤ 0 → Looked t r ps row i → SweptTo t r ps now reports i
-      → ◌≡◌ {A = Option Swept} (Some (record { places = now; reports = reports })) (swept t r ps)
+      → ◌≡◌ {A = Option Swept} (swept t r ps) (Some (record { places = now; reports = reports }))
   unfolding swept
   all-swept row now reports i h l s =
       let end : i ≡ 0 = omega arith in
       let a = s.stepped ∙ ap (filled_from (aged t r) ps ps) end ∙ fill-all (aged t r) ps ps in
       let b = s.told ∙ ap (filled_from (report t r) (replicate 16 nothing) ps) end ∙ fill-all (report t r) (replicate 16 nothing) ps in
-      (λ j. Some (record { places = a j; reports = b j })) ∙ simp (looked-sound t r ps row i h l)
+      sym ((λ j. Some (record { places = a j; reports = b j })) ∙ simp (looked-sound t r ps row i h l))
 
 pub ruleset sweeping = (none-swept, zero-swept, all-swept)

@@ -1,6 +1,6 @@
 -- The serials that are open, as a row of numbers that is searched at once: at each place the serial under which it is open.
 -- Assumes nothing.
-use Rattle.std.specs.Prelude.{ℕ, ◌%◌, ◌<◌, Bool, true, false, not, cond, List, ◌≡◌, eqb, leb, length, get_or, Result, MatchResult}
+use Rattle.std.specs.Prelude.{ℕ, ◌%◌, ◌<◌, Bool, true, false, not, cond, List, ◌≡◌, eqb, leb, length, get_or, Result, MatchResult, ⊤}
 use Rattle.std.specs.List.{list_any}
 use Rattle.octets.specs.Searches.{first_fit}
 use Rattle.place.specs.declared.Place.{Place}
@@ -39,6 +39,6 @@ pub record Weighed (ps : List Place) (ws : List ℕ) : Type 0 where
 pub record Marked (marks row : List ℕ) : Type 0 where
   pub met : (k : ℕ) → k < length row → get_or row k 0 < NONE → get_or marks (get_or row k 0 % 16) 0 ≡ 0 → ⊥
 
--- the row that has what places that keep the rules hold, or that they break them
-pub record Gathered (t r : ℕ) (ps : List Place) (found : Result (List ℕ) Unfound) : Type 0 where
-  pub rows : MatchResult found (λ row. (all_sound t r ps ≡ true) × (length row ≡ 16) × Held row ps 0) (λ e. (e ≡ Broken) × (all_sound t r ps ≡ false))
+-- whether places keep the rules, and then the row that has what they hold
+pub record Gathered (t r : ℕ) (ps : List Place) (kept : Result ⊤ Unfound) (row : List ℕ) : Type 0 where
+  pub rows : MatchResult kept (λ y. (all_sound t r ps ≡ true) × (length row ≡ 16) × Held row ps 0) (λ e. (e ≡ Broken) × (all_sound t r ps ≡ false))

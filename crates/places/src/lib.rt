@@ -1,14 +1,13 @@
 //! The searches over a centre's places, and the tick of all of them.
 #![tactic(auto)]
 
-ghost use Rattle.std.specs.Prelude.{◌≡◌, ◌&&◌, ◌+◌, ◌%◌, ◌≤◌, ◌<◌, true, ltb, leb};
+ghost use Rattle.std.specs.Prelude.{◌≡◌, ◌&&◌, ◌+◌, ◌%◌, ◌≤◌, ◌<◌, cond, Some, None, ltb, leb};
 ghost use Rattle.place.specs.Rules.{is_open};
-ghost use Rattle.place.specs.Outcomes.{number_of, in_numbers};
-ghost use Rattle.place.specs.Steps.{ticked};
-ghost use Rattle.places.specs.Rows.{opening, reached, upward, swept};
+ghost use Rattle.place.specs.Outcomes.{number_of};
+ghost use Rattle.places.specs.Rows.{opening, reached, upward, swept as of_all};
 ghost use Rattle.places.specs.Held.{stands_in, serial_in, Weighed, Marked, Gathered};
 
-use place::{Outcome, Place, Reply, Step};
+use place::{Outcome, Place, Reply};
 
 /// The places of one centre: 0 to 7 are the first's, 8 to 15 the second's.
 const SHARE: usize = 8;
@@ -41,13 +40,29 @@ pub struct Swept {
 }
 
 /// Whether a serial stands among those of its centre, each of which has left its mark: one without a mark is not looked for.
+#[inline(always)]
 #[tactic(auto, using(crate::proofs::Marks::unmarked))]
 fn is_taken(marks: &[u8; 16], eight: &[u32], serial: u16) -> bool
     requires { Marked marks.now eight.now }
     ensures value { result ≡ stands_in eight.now serial }
     ensures serial_bound { serial < 65536 }
 {
-    marks[mark_of(serial)] != 0 && eight.contains(&u32::from(serial))
+    marks[mark_of(serial)] != 0 && stands_in(eight, serial)
+}
+
+/// Whether a serial stands among the eight.
+// No early way out, as `contains` has one, so that the compiler compares many at once.
+#[inline(always)]
+fn stands_in(eight: &[u32], serial: u16) -> bool
+    ensures { result ≡ stands_in eight.now serial }
+{
+    let mut hit = false;
+    for n in eight {
+        if *n == u32::from(serial) {
+            hit = true;
+        }
+    }
+    hit
 }
 
 /// Where a serial leaves its mark; serials that follow each other leave theirs apart.
@@ -57,13 +72,13 @@ fn mark_of(serial: u16) -> usize
     usize::from(serial % 16)
 }
 
-/// Whether a place is open and keeps the state's rules.
-fn is_kept(place: Place, timeout: u8, resends: u8) -> bool
-    ensures { result ≡ is_open place.mode && (ltb place.age timeout && leb place.resends resends) }
+/// Whether an exchange of these numbers is open and keeps the state's rules.
+// Numbers and no place, which would be packed into a register and unpacked again.
+#[inline(always)]
+fn is_kept(mode: u16, made: u16, age: u16, timeout: u8, resends: u8) -> bool
+    ensures { result ≡ is_open mode && (ltb age timeout && leb made resends) }
 {
-    place::is_open(place.mode)
-        && place.age < u16::from(timeout)
-        && place.resends <= u16::from(resends)
+    place::is_open(mode) && age < u16::from(timeout) && made <= u16::from(resends)
 }
 
 /// Each place as one number, so that a pass tells the free ones by one test.
@@ -79,29 +94,36 @@ fn weigh(places: [Place; 16]) -> [u64; 16]
 
 /// The serials of places that keep the rules, each at its own place, NONE where it is free; the pass goes centre by centre, so that the compiler writes
 /// its turns out one by one.
+// Both rows are lent: a row handed back is copied, and places handed on are taken apart into their 64 numbers.
 #[inline(always)]
-fn gather(places: [Place; 16], timeout: u8, resends: u8) -> Result<[u32; 16], Unfound>
-    ensures { Gathered timeout resends places result }
+fn gather(
+    places: &[Place; 16],
+    timeout: u8,
+    resends: u8,
+    row: &mut [u32; 16],
+) -> Result<(), Unfound>
+    ensures { Gathered timeout resends places.now result row.new }
 {
-    let weights = weigh(places);
-    let mut row = [NONE; 16];
+    let weights = weigh(*places);
+    *row = [NONE; 16];
     for centre in (0..2).rev() {
         let low = centre * SHARE;
         let mut marks = [0; 16];
         for k in (low..low + SHARE).rev() {
             if weights[k] != 0 {
-                let place = places[k];
-                if !is_kept(place, timeout, resends)
-                    || is_taken(&marks, &row[low..low + SHARE], place.serial)
+                let mode = places[k].mode;
+                let serial = places[k].serial;
+                if !is_kept(mode, places[k].resends, places[k].age, timeout, resends)
+                    || is_taken(&marks, &row[low..low + SHARE], serial)
                 {
                     return Err(Unfound::Broken);
                 }
-                marks[mark_of(place.serial)] = 1;
-                row[k] = u32::from(place.serial);
+                marks[mark_of(serial)] = 1;
+                row[k] = u32::from(serial);
             }
         }
     }
-    Ok(row)
+    Ok(())
 }
 
 /// The serial after another.
@@ -117,7 +139,7 @@ fn serial_in(eight: &[u32], next: u16) -> u16
 {
     let mut serial = next;
     for _ in 0..SHARE {
-        if !eight.contains(&u32::from(serial)) {
+        if !stands_in(eight, serial) {
             return serial;
         }
         serial = after(serial);
@@ -126,6 +148,7 @@ fn serial_in(eight: &[u32], next: u16) -> u16
 }
 
 /// A centre's lowest free place and the first serial that is not open within it, in places that keep the rules.
+#[inline(always)]
 pub fn find_opening(
     places: [Place; 16],
     centre: usize,
@@ -135,7 +158,8 @@ pub fn find_opening(
 ) -> Result<(usize, u16), Unfound>
     ensures { result ≡ opening timeout resends places centre next }
 {
-    let row = gather(places, timeout, resends)?;
+    let mut row = [NONE; 16];
+    gather(&places, timeout, resends, &mut row)?;
     if 2 <= centre {
         return Err(Unfound::Outside);
     }
@@ -150,6 +174,7 @@ pub fn find_opening(
 }
 
 /// The place of a centre that a reply fits, in places that keep the rules, where no serial is open twice within a centre.
+#[inline(always)]
 pub fn find_fitting(
     places: [Place; 16],
     centre: usize,
@@ -160,7 +185,8 @@ pub fn find_fitting(
 ) -> Result<(usize, u16), Unfound>
     ensures { result ≡ reached timeout resends places centre serial reply }
 {
-    let row = gather(places, timeout, resends)?;
+    let mut row = [NONE; 16];
+    gather(&places, timeout, resends, &mut row)?;
     if 2 <= centre {
         return Err(Unfound::Outside);
     }
@@ -174,56 +200,76 @@ pub fn find_fitting(
 }
 
 /// A tick of every place, by the same pass: a place of zeros stays as it is, and nothing is told of it.
-// The pass stands here once more: gathered first and ticked in a second pass, an empty, a half and a full table cost 257, 613 and 968 in place of 221, 517 and 813.
+#[inline(always)]
 pub fn tick_all(places: [Place; 16], timeout: u8, resends: u8) -> Option<Swept>
-    ensures { result ≡ swept timeout resends places }
+    ensures { result ≡ of_all timeout resends places }
 {
-    let weights = weigh(places);
-    let mut row = [NONE; 16];
     let mut swept = Swept {
         places,
         reports: [Report::default(); 16],
     };
+    if sweep(places, timeout, resends, &mut swept) {
+        Some(swept)
+    } else {
+        None
+    }
+}
+
+/// The same, into what it makes and tells of them, and whether the places keep the rules.
+// The pass stands here once more: gathered first and ticked in a second pass, an empty, a half and a full table cost 257, 613 and 968 in place of 221, 517 and 813.
+// What is swept is lent: an Option of it is copied on each way out.
+// The serial is read behind the first test: beside the other three the compiler reads all four at once, four instructions more for each open place.
+#[inline(always)]
+fn sweep(places: [Place; 16], timeout: u8, resends: u8, swept: &mut Swept) -> bool
+    ensures { of_all timeout resends places ≡ cond result (Some swept.new) None }
+{
+    let weights = weigh(places);
+    let mut row = [NONE; 16];
+    let reports = [Report::default(); 16];
+    *swept = Swept { places, reports };
     for centre in (0..2).rev() {
         let low = centre * SHARE;
         let mut marks = [0; 16];
         for k in (low..low + SHARE).rev() {
             if weights[k] != 0 {
-                let place = places[k];
-                if !is_kept(place, timeout, resends)
-                    || is_taken(&marks, &row[low..low + SHARE], place.serial)
-                {
-                    return None;
+                let mode = places[k].mode;
+                let made = places[k].resends;
+                let age = places[k].age;
+                if !is_kept(mode, made, age, timeout, resends) {
+                    return false;
                 }
-                marks[mark_of(place.serial)] = 1;
-                row[k] = u32::from(place.serial);
-                let step = ticked(place, timeout, resends);
-                swept.places[k] = step.place;
-                swept.reports[k] = Report {
-                    outcome: u16::from(step.outcome.number()),
-                    serial: place.serial,
-                };
+                let serial = places[k].serial;
+                if is_taken(&marks, &row[low..low + SHARE], serial) {
+                    return false;
+                }
+                marks[mark_of(serial)] = 1;
+                row[k] = u32::from(serial);
+                if u32::from(age) + 1 < u32::from(timeout) {
+                    swept.places[k] = Place {
+                        serial,
+                        mode,
+                        resends: made,
+                        age: age + 1,
+                    };
+                    swept.reports[k] = told(Outcome::Nothing, serial);
+                } else {
+                    let step = places[k].denied(resends);
+                    swept.places[k] = step.place;
+                    swept.reports[k] = told(step.outcome, serial);
+                }
             }
         }
     }
-    Some(swept)
+    true
 }
 
-/// The tick of an open place: older by one, or denied where its age comes to the timeout.
-#[tactic(auto, unfolding(place::specs::Steps::ticked))]
-fn ticked(place: Place, timeout: u8, resends: u8) -> Step
-    requires { is_open place.mode ≡ true }
-    ensures { in_numbers result ≡ ticked timeout resends place }
+/// What is told of an exchange.
+#[inline(always)]
+fn told(outcome: Outcome, serial: u16) -> Report
+    ensures { result ≡ record { outcome = number_of outcome; serial = serial } }
 {
-    if u32::from(place.age) + 1 < u32::from(timeout) {
-        Step {
-            place: Place {
-                age: place.age + 1,
-                ..place
-            },
-            outcome: Outcome::Nothing,
-        }
-    } else {
-        place.denied(resends)
+    Report {
+        outcome: u16::from(outcome.number()),
+        serial,
     }
 }

@@ -17,10 +17,10 @@ returns-then-not-is_kept c =
     let own = met-low _ _ _ _ c.loop-k.invariant.1 c.loop-k-test.true in
     elim c.then-not-is_kept.branch [
       | then-not-is_kept-via-then-not-is_kept w ↦
-          gather-breaks _ _ _ _ _ above c.loop-k.invariant.0 _ c.weigh-weights.ensures c.if-weights-k-ne0.true _ c.is_kept.ensures (ap not w.if-not-is_kept.true)
+          gather-breaks _ _ _ _ _ above c.loop-k.invariant.0 _ c.weigh-weights.ensures c.if-weights-k-ne0.true _ c.is_kept.ensures _ (ap not w.if-not-is_kept.true)
       | then-not-is_kept-via-else-not-is_kept+then-is_taken w ↦
           gather-double _ _ _ _ _ above c.loop-k.invariant.0 _ c.weigh-weights.ensures c.if-weights-k-ne0.true _ c.is_kept.ensures (ap not w.if-not-is_kept.false)
-          _ _ own (omega arith) _ (w.is_taken.ensures.value, w.is_taken.ensures.serial_bound) w.if-is_taken.true
+          _ _ own (omega arith) _ (w.is_taken.ensures.value, w.is_taken.ensures.serial_bound) _ w.if-is_taken.true
     ]
 
 pub loop-k-preserved-then-weights-k-ne0 : goal.loop-k-preserved-then-weights-k-ne0

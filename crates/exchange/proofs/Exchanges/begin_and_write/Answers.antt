@@ -6,6 +6,7 @@ use Rattle.place.specs.Modes.{number_of}
 use Rattle.verdict.specs.Orders.{told}
 use Rattle.verdict.specs.declared.Verdict.{Verdict}
 use Rattle.verdict.proofs.Told.{not-good}
+use Rattle.exchange.specs.declared.Centre.{Centre}
 use Rattle.exchange.specs.Begins.{unbegun}
 use Rattle.exchange.specs.Table.{found, found_as, entered}
 use Rattle.exchange.proofs.Calls.{begin-unfound, begin-unfound-output, begin-unwritten, begin-unwritten-output, begin-few, begin-written, begin-written-output, address-of}
@@ -49,5 +50,5 @@ returns-clause-value c =
 pub returns-clause-out_after : goal.returns-clause-out_after
 returns-clause-out_after c =
     begin-written-output _ _ _ _ _ (found_as (Ok (c.in-Ok.place, c.in-Ok.serial))) (c.in-Ok.ensures.value ∙ ap (found c.args.self) c.from-named.ensures) refl _ _ _ _ _
-    c.opening_by.ensures c.header-header.ensures c.in_default-write.ensures.value refl _ (omega arith) (address-of c.args.self _ _ (omega (arith, c.from-named.ensures)))
+    c.opening_by.ensures c.header-header.ensures c.in_default-write.ensures.value refl _ (omega arith) (ap (λ (y : Centre). y.address.bytes) c.centre-own.ensures ∙ address-of c.args.self _ _ (omega (arith, c.from-named.ensures)))
     c.in_default-write.ensures.out_after

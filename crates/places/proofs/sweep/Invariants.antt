@@ -1,10 +1,10 @@
--- `places::tick_all` meets its contract. The loops' invariants: the places from k on keep the rules, the row has what they hold, and they have taken
+-- `places::sweep` meets its contract. The loops' invariants: the places from k on keep the rules, the row has what they hold, and they have taken
 -- their step and are reported; of a centre's eight, those that were looked at have left their marks. Assumes nothing.
 use Prim.Native.Nat.{◌*◌}
 use Rattle.places.proofs.Loops.{Looked}
 use Rattle.places.proofs.Marks.{Met}
 use Rattle.places.proofs.Sweeping.{SweptTo}
-use Rattle.places.proofs.tick_all.Given as goal
+use Rattle.places.proofs.sweep.Given as goal
 
 abbrev pub invariant-loop-k : goal.invariant-loop-k
 invariant-loop-k l =
