@@ -44,7 +44,9 @@ pub fn judge_content(p: &[u8]) -> Result<(), Refused>
     ensure(byte_at(p, 4) == 1, Refusal::Version)?;
     let command = byte_at(p, 26);
     ensure((1..=6).contains(&command), Refusal::Command)?;
-    ensure(Label::read_at(p, 6).is_allowed(), Refusal::Time)?;
+    // Asked of the bytes, as in a unit, and not of a label that was read: the compiler then tests four of them at once.
+    let label = p.get(6..).unwrap_or_default();
+    ensure(Label::stands_in(label), Refusal::Time)?;
     let unit = octets::part_of(p, 27, 27 + frame::unit_length(p));
     unit::judge_under(unit, command)
 }
