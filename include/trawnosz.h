@@ -493,33 +493,33 @@ trawnosz_found trawnosz_release(uint8_t *out, size_t out_length);
 /* ---- Stack: the bytes that a call needs at most, all that it calls included, beside its arguments, its answer and what memcpy,
  * memmove and memset need; read out of the archive's code by tests/stack. ----
  *
- *   trawnosz_answer_to                408
- *   trawnosz_begin_and_write         1448
+ *   trawnosz_answer_to                288
+ *   trawnosz_begin_and_write          656
  *   trawnosz_exchanges_fresh          144
- *   trawnosz_find_description         168
- *   trawnosz_find_object              168
+ *   trawnosz_find_description          96
+ *   trawnosz_find_object               96
  *   trawnosz_find_part                 72
- *   trawnosz_find_unit                232
+ *   trawnosz_find_unit                144
  *   trawnosz_fresh                     16
- *   trawnosz_judge_packet             216
+ *   trawnosz_judge_packet             128
  *   trawnosz_judge_table               48
- *   trawnosz_judge_unit               136
- *   trawnosz_judge_unit_under         136
+ *   trawnosz_judge_unit                64
+ *   trawnosz_judge_unit_under          64
  *   trawnosz_name                      40
- *   trawnosz_read_object              296
- *   trawnosz_read_packet              280
+ *   trawnosz_read_object              128
+ *   trawnosz_read_packet              192
  *   trawnosz_receive                  184
  *   trawnosz_release                   16
- *   trawnosz_reply_answer            1176
- *   trawnosz_reply_bad_answer        1176
- *   trawnosz_reply_confirm           1176
- *   trawnosz_reply_deny              1176
- *   trawnosz_take_packet             1352
- *   trawnosz_tick                    1048
- *   trawnosz_unit_length               40
- *   trawnosz_write_object             312
- *   trawnosz_write_packet             280
- *   trawnosz_write_packet_object      344
+ *   trawnosz_reply_answer             532
+ *   trawnosz_reply_bad_answer         532
+ *   trawnosz_reply_confirm            548
+ *   trawnosz_reply_deny               532
+ *   trawnosz_take_packet              820
+ *   trawnosz_tick                     672
+ *   trawnosz_unit_length                8
+ *   trawnosz_write_object             176
+ *   trawnosz_write_packet             176
+ *   trawnosz_write_packet_object      192
  *   trawnosz_write_packet_text         56
  *   trawnosz_write_text                40
  */
