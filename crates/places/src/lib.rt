@@ -216,9 +216,9 @@ pub fn tick_all(places: [Place; 16], timeout: u8, resends: u8) -> Option<Swept>
 }
 
 /// The same, into what it makes and tells of them, and whether the places keep the rules.
-// The pass stands here once more: gathered first and ticked in a second pass, an empty, a half and a full table cost 257, 613 and 968 in place of 221, 517 and 813.
+// The pass stands here once more: gathered first and ticked in a second pass, the places are gone over twice.
 // What is swept is lent: an Option of it is copied on each way out.
-// The serial is read behind the first test: beside the other three the compiler reads all four at once, four instructions more for each open place.
+// The serial is read behind the first test: beside the other three the compiler reads all four at once, which costs each open place more.
 #[inline(always)]
 fn sweep(places: [Place; 16], timeout: u8, resends: u8, swept: &mut Swept) -> bool
     ensures { of_all timeout resends places ≡ cond result (Some swept.new) None }
