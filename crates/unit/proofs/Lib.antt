@@ -1,4 +1,3 @@
-pub mod Searching
 pub mod Walks
 pub mod Sizes
 pub mod Times
